@@ -1,0 +1,28 @@
+-- `rotate_right_u32` meets its contract, by the laws of rotations at 32 bits. Assumes nothing.
+use native.Mathlib.Omega.{arith}
+use Prim.Native.Nat.{_-_, _%_}
+use mathlib.Core.Path.{sym}
+use borrow.Author.Needs.{needs}
+use Rattle.wrapping.specs.RotateLaws.{turned, turn-none, turn-whole}
+use Rattle.wrapping.proofs.rotate.rotate_right_u32.Statement.{statement}
+use Rattle.wrapping.proofs.rotate.rotate_right_u32.Tie as tie
+
+sub-result : tie.Need-sub-result
+sub-result c = search needs
+
+shl-result : tie.Need-shl-result
+shl-result c = search needs
+
+shr-result : tie.Need-shr-result
+shr-result c = search needs
+
+returns : tie.Need-returns
+returns c = rw (c .if1 .taken) (sym (turn-whole 32 _))
+
+returns-2 : tie.Need-returns-2
+returns-2 c =
+    let a = c .before .args in
+    turned 32 (a .x) (a .k % 32) (32 - a .k % 32) (omega arith) (omega arith)
+
+pub rotate-right-u32-spec : {M : Type 1} → statement M
+rotate-right-u32-spec = tie.close (tie.spec sub-result shl-result shr-result returns returns-2)

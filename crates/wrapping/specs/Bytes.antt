@@ -1,0 +1,13 @@
+-- Little-endian numbers in a list of bytes.
+use Prim.Native.Nat.{ℕ, zero, suc, _+_, _*_, _^_}
+use mathlib.Core.List.{List}
+use lib.ListN.{getD}
+
+-- the byte k places after the place i; 0 past the end of the list
+abbrev pub byteAt : (s : List ℕ) (i k : ℕ) → ℕ
+byteAt s i k = getD s (i + k) 0
+
+-- the number of the n bytes from the place i on, the lowest first
+unfoldable pub little : (n : ℕ) (s : List ℕ) (i : ℕ) → ℕ
+little zero s i = 0
+little (suc n) s i = little n s i + byteAt s i n * 2 ^ (8 * n)
