@@ -6,3 +6,4 @@ pub mod RotateLaws
 pub mod Wide
 pub mod WideLaws
 pub mod Bytes
+pub mod BytesLaws

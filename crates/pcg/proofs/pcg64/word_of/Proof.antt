@@ -1,0 +1,22 @@
+-- `word_of` meets its contract. Assumes nothing.
+use mathlib.Core.Path.{_∙_, sym}
+use native.Mathlib.Omega.{arith}
+use borrow.Author.Needs.{needs}
+use Rattle.wrapping.specs.WideLaws.{high-word, low-word, top-bits}
+use Rattle.pcg.proofs.pcg64.word_of.Statement.{statement}
+use Rattle.pcg.proofs.pcg64.word_of.Tie as tie
+
+cast-rotate-right-u64 : tie.Need-cast-rotate-right-u64
+cast-rotate-right-u64 c = search needs
+
+rotate-right-u64-requires : tie.Need-rotate-right-u64-requires
+rotate-right-u64-requires c κs = search needs
+
+returns : tie.Need-returns
+returns c =
+    let s = c .before .before .before .args .state in
+    c .rotate-right-u64 .ensures
+    ∙ sym (rw (high-word s (omega arith), low-word s (omega arith), top-bits s 58 (omega arith)))
+
+pub word-of-spec : {M : Type 1} → statement M
+word-of-spec = tie.close (tie.spec cast-rotate-right-u64 rotate-right-u64-requires returns)

@@ -1,0 +1,124 @@
+// PCG-XSL-RR-128/64: a state and an increment of 128 bits each, words of 64 bits.
+ghost use mathlib.Core.Path.{_≡_};
+ghost use Rattle.wrapping.specs.Wide.{value};
+ghost use Rattle.pcg.specs.Pcg64.{parts, nextState, output, drawn, drawnHigh, incrementOf, seeded, defaultStream, seededBytes};
+use wrapping::Wide;
+
+const MULTIPLIER: Wide = Wide {
+    high: 0x2360_ED05_1FC6_5DA4,
+    low: 0x4385_DF64_9FCC_F645,
+};
+
+// What a seed number alone takes for its stream.
+const DEFAULT_STREAM: Wide = Wide {
+    high: 0x5851_F42D_4C95_7F2D,
+    low: 0x1405_7B7E_F767_814F,
+};
+
+#[repr(C)]
+pub struct Pcg64 {
+    pub state: Wide,
+    pub inc: Wide,
+}
+
+// A word of 64 bits, and the generator after it.
+#[repr(C)]
+pub struct Drawn64 {
+    pub word: u64,
+    pub next: Pcg64,
+}
+
+// A word of 32 bits, and the generator after it.
+#[repr(C)]
+pub struct Drawn32 {
+    pub word: u32,
+    pub next: Pcg64,
+}
+
+// The state after a state, with this increment.
+fn next_state(state: Wide, inc: Wide) -> Wide
+    ensures { λ r. ⌜ r ≡ nextState inc state ⌝ }
+{
+    state.wrapping_mul(MULTIPLIER).wrapping_add(inc)
+}
+
+// The word that a state gives: XOR-shift-low, then a rotation by the top six bits.
+fn word_of(state: Wide) -> u64
+    ensures { λ r. ⌜ r ≡ output state ⌝ }
+{
+    wrapping::rotate_right_u64(state.high ^ state.low, (state.high >> 58) as u32)
+}
+
+// The increment of a stream: shifted left by 1, the top bit dropped, plus 1.
+fn increment(stream: Wide) -> Wide
+    ensures { λ r. ⌜ r ≡ incrementOf stream ⌝ }
+{
+    stream
+        .wrapping_add(stream)
+        .wrapping_add(Wide { high: 0, low: 1 })
+}
+
+impl Pcg64 {
+    // The generator with this state and the increment in use, an even one included.
+    pub fn from_parts(state: Wide, inc: Wide) -> Pcg64
+        ensures { λ r. ⌜ r ≡ parts state inc ⌝ }
+    {
+        Pcg64 { state, inc }
+    }
+
+    // State 0, one step, the seed added, one step; the increment is the stream's.
+    pub fn from_seed_stream(seed: Wide, stream: Wide) -> Pcg64
+        ensures { λ r. ⌜ r ≡ seeded (value seed) (value stream) ⌝ }
+    {
+        let inc = increment(stream);
+        let first = next_state(Wide { high: 0, low: 0 }, inc);
+        let state = next_state(first.wrapping_add(seed), inc);
+        Pcg64 { state, inc }
+    }
+
+    pub fn from_u128_seed(seed: Wide) -> Pcg64
+        ensures { λ r. ⌜ r ≡ seeded (value seed) defaultStream ⌝ }
+    {
+        Pcg64::from_seed_stream(seed, DEFAULT_STREAM)
+    }
+
+    // From 32 bytes: the seed and then the stream, whose low bit is set before it is shifted.
+    pub fn from_seed(seed: [u8; 32]) -> Pcg64
+        ensures { λ r. ⌜ r ≡ seededBytes seed ⌝ }
+    {
+        let state = Wide {
+            high: wrapping::le_u64(&seed, 8),
+            low: wrapping::le_u64(&seed, 0),
+        };
+        let stream = Wide {
+            high: wrapping::le_u64(&seed, 24),
+            low: wrapping::le_u64(&seed, 16) / 2 * 2 + 1,
+        };
+        Pcg64::from_seed_stream(state, stream)
+    }
+
+    // The next word. It is made of the old state.
+    pub fn next_u64(self) -> Drawn64
+        ensures { λ r. ⌜ r ≡ drawn self ⌝ }
+    {
+        let old = self.state;
+        let inc = self.inc;
+        let state = next_state(old, inc);
+        Drawn64 {
+            word: word_of(old),
+            next: Pcg64 { state, inc },
+        }
+    }
+
+    // The high half of the next word.
+    pub fn next_u32(self) -> Drawn32
+        ensures { λ r. ⌜ r ≡ drawnHigh self ⌝ }
+    {
+        let d = self.next_u64();
+        let next = d.next;
+        Drawn32 {
+            word: (d.word >> 32) as u32,
+            next: next,
+        }
+    }
+}
