@@ -25,13 +25,16 @@ output s = rotateRight 32 (bitXor (s / 2 ^ 18) s / 2 ^ 27 % 2 ^ 32) (s / 2 ^ 59)
 abbrev pub stepped : Pcg32 → Pcg32
 stepped g = parts (nextState (g .inc) (g .state)) (g .inc)
 
+abbrev pub wordOf : Pcg32 → ℕ
+wordOf g = output (g .state)
+
 -- one word, made of the old state
 abbrev pub drawn : Pcg32 → Drawn32
-drawn g = record { word = output (g .state); next = stepped g }
+drawn g = record { word = wordOf g; next = stepped g }
 
 -- two words, the low one first (document 01; the paper has none)
 abbrev pub drawnTwice : Pcg32 → Drawn64
-drawnTwice g = record { word = drawn (stepped g) .word * 2 ^ 32 + drawn g .word; next = stepped (stepped g) }
+drawnTwice g = record { word = wordOf (stepped g) * 2 ^ 32 + wordOf g; next = stepped (stepped g) }
 
 abbrev pub seeded : (seed stream : ℕ) → Pcg32
 seeded seed stream = parts (seededState 64 multiplier (increment 64 stream) seed) (increment 64 stream)

@@ -28,13 +28,16 @@ output s = rotateRight 64 (bitXor (value s / 2 ^ 64) (value s % 2 ^ 64)) (value 
 abbrev pub stepped : Pcg64 → Pcg64
 stepped g = parts (nextState (g .inc) (g .state)) (g .inc)
 
+abbrev pub wordOf : Pcg64 → ℕ
+wordOf g = output (g .state)
+
 -- one word, made of the old state
 abbrev pub drawn : Pcg64 → Drawn64
-drawn g = record { word = output (g .state); next = stepped g }
+drawn g = record { word = wordOf g; next = stepped g }
 
 -- the 32-bit word is the high half (document 01; the paper has none)
 abbrev pub drawnHigh : Pcg64 → Drawn32
-drawnHigh g = record { word = output (g .state) / 2 ^ 32; next = stepped g }
+drawnHigh g = record { word = wordOf g / 2 ^ 32; next = stepped g }
 
 abbrev pub incrementOf : Wide → Wide
 incrementOf stream = wide (increment 128 (value stream))

@@ -12,18 +12,18 @@ in-use-32 = refl
 in-use-64 : increment 128 pcg64.defaultStream ≡ 0xB0A3_E85A_992A_FE5A_280A_F6FD_EECF_029F
 in-use-64 = refl
 
-first-32 : pcg32.drawn (pcg32.seeded 42 54) .word ≡ 0xa15c02b7
+first-32 : pcg32.wordOf (pcg32.seeded 42 54) ≡ 0xa15c02b7
 unfolding seededState
 first-32 = refl
 
-second-32 : pcg32.drawn (pcg32.stepped (pcg32.seeded 42 54)) .word ≡ 0x7b47f409
+second-32 : pcg32.wordOf (pcg32.stepped (pcg32.seeded 42 54)) ≡ 0x7b47f409
 unfolding seededState
 second-32 = refl
 
-first-64 : pcg64.drawn (pcg64.stepped (pcg64.seeded 42 54)) .word ≡ 0x86b1da1d72062b68
+first-64 : pcg64.wordOf (pcg64.stepped (pcg64.seeded 42 54)) ≡ 0x86b1da1d72062b68
 unfolding seededState
 first-64 = refl
 
-second-64 : pcg64.drawn (pcg64.stepped (pcg64.stepped (pcg64.seeded 42 54))) .word ≡ 0x1304aa46c9853d39
+second-64 : pcg64.wordOf (pcg64.stepped (pcg64.stepped (pcg64.seeded 42 54))) ≡ 0x1304aa46c9853d39
 unfolding seededState
 second-64 = refl

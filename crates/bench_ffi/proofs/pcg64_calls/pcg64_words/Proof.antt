@@ -1,0 +1,44 @@
+-- `pcg64_words` meets its contract. The loop's invariant: it has come i words far. Assumes nothing.
+use borrow.Author.Needs.{needs}
+use native.Mathlib.Omega.{arith}
+use mathlib.Core.Path.{_≡_}
+use Prim.Native.Nat.{_≤_, _-_}
+use Rattle.bench_ffi.specs.Steps.{Came, came-nowhere, came-further}
+use Rattle.pcg.specs.Pcg64.{stepped, wordOf}
+use Rattle.bench_ffi.proofs.pcg64_calls.pcg64_words.Statement.{statement}
+use Rattle.bench_ffi.proofs.pcg64_calls.pcg64_words.Tie as tie
+
+abbrev Inv-loop : tie.InvT-loop
+Inv-loop n next₀ word₀ i₀ next word i = (i ≤ n) × Came stepped wordOf next₀ i next word
+
+abbrev μ-loop : tie.MeasureT-loop
+μ-loop n next₀ word₀ i₀ next word i = n - i
+
+loop-holds : tie.Need-loop-holds Inv-loop μ-loop
+loop-holds c = (omega arith, came-nowhere stepped wordOf _)
+
+next-u64-requires : tie.Need-next-u64-requires Inv-loop μ-loop
+next-u64-requires c κs = search needs
+
+add-i : tie.Need-add-i Inv-loop μ-loop
+add-i c = omega arith
+
+loop-less : tie.Need-loop-less Inv-loop μ-loop
+loop-less c = omega arith
+
+loop-again : tie.Need-loop-again Inv-loop μ-loop
+loop-again c =
+    let loop = c .before .before .before .before .loop in
+    (omega arith, rw (c .before .before .next-u64 .ensures) (came-further stepped wordOf _ (loop .i) (loop .next) (loop .word) (loop .inv .1)))
+
+returns : tie.Need-returns Inv-loop μ-loop
+returns c =
+    let loop = c .before .loop in
+    let end : loop .i ≡ c .before .before .args .n = omega arith in
+    let all = rw end at (loop .inv .1) in
+    rw (all .xor, all .state)
+
+pub pcg64-words-spec : {M : Type 1} → statement M
+pcg64-words-spec =
+    tie.close
+    (tie.spec Inv-loop μ-loop loop-holds next-u64-requires add-i loop-less loop-again returns)

@@ -1,0 +1,3 @@
+-- What the loops give: the XOR of words in a row, over any generator.
+pub mod Steps
+pub mod Loops

@@ -1,0 +1,59 @@
+// Exports of Pcg32.
+ghost use mathlib.Core.Path.{_≡_};
+ghost use Rattle.pcg.specs.Pcg32.{drawn, drawnTwice, seeded, defaultStream, seededBytes};
+ghost use Rattle.bench_ffi.specs.Loops.{pcg32Words};
+use pcg::Pcg32;
+use pcg::pcg32::Drawn32;
+use pcg::pcg32::Drawn64;
+
+#[no_mangle]
+pub extern "C" fn pcg32_from_u64_seed(seed: u64) -> Pcg32
+    ensures { λ r. ⌜ r ≡ seeded seed defaultStream ⌝ }
+{
+    Pcg32::from_u64_seed(seed)
+}
+
+#[no_mangle]
+pub extern "C" fn pcg32_from_seed_stream(seed: u64, stream: u64) -> Pcg32
+    ensures { λ r. ⌜ r ≡ seeded seed stream ⌝ }
+{
+    Pcg32::from_seed_stream(seed, stream)
+}
+
+#[no_mangle]
+pub extern "C" fn pcg32_from_seed(seed: &[u8; 16]) -> Pcg32
+    ensures { λ r. ⌜ r ≡ seededBytes (now (seed .entry)) ⌝ }
+{
+    Pcg32::from_seed(*seed)
+}
+
+#[no_mangle]
+pub extern "C" fn pcg32_next_u32(g: Pcg32) -> Drawn32
+    ensures { λ r. ⌜ r ≡ drawn g ⌝ }
+{
+    g.next_u32()
+}
+
+#[no_mangle]
+pub extern "C" fn pcg32_next_u64(g: Pcg32) -> Drawn64
+    ensures { λ r. ⌜ r ≡ drawnTwice g ⌝ }
+{
+    g.next_u64()
+}
+
+// The XOR of the next n 32-bit words, and the generator after them.
+#[no_mangle]
+pub extern "C" fn pcg32_words(g: Pcg32, n: u64) -> Drawn32
+    ensures { λ r. ⌜ r ≡ pcg32Words n g ⌝ }
+{
+    let mut next = g;
+    let mut word: u32 = 0;
+    let mut i: u64 = 0;
+    while i < n {
+        let d = next.next_u32();
+        word = word ^ d.word;
+        next = d.next;
+        i += 1;
+    }
+    Drawn32 { word, next }
+}
