@@ -100,7 +100,7 @@ impl Pcg32 {
         let next = high.next;
         Drawn64 {
             word: (high.word as u64) * 0x1_0000_0000 + (low.word as u64),
-            next: next,
+            next,
         }
     }
 }

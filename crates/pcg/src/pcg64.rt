@@ -118,7 +118,7 @@ impl Pcg64 {
         let next = d.next;
         Drawn32 {
             word: (d.word >> 32) as u32,
-            next: next,
+            next,
         }
     }
 }

@@ -79,11 +79,9 @@ impl Xoshiro256PlusPlus {
     pub fn next_u64(self) -> Drawn64
         ensures { λ r. ⌜ r ≡ drawn self ⌝ }
     {
+        let word = self.word();
         let next = self.step();
-        Drawn64 {
-            word: self.word(),
-            next: next,
-        }
+        Drawn64 { word, next }
     }
 
     // The high half of the next 64-bit word.
@@ -94,7 +92,7 @@ impl Xoshiro256PlusPlus {
         let next = d.next;
         Drawn32 {
             word: (d.word >> 32) as u32,
-            next: next,
+            next,
         }
     }
 

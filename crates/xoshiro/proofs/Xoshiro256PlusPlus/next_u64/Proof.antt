@@ -3,14 +3,14 @@ use borrow.Author.Needs.{needs}
 use Rattle.xoshiro.proofs.Xoshiro256PlusPlus.next_u64.Statement.{statement}
 use Rattle.xoshiro.proofs.Xoshiro256PlusPlus.next_u64.Tie as tie
 
-step-requires : tie.Need-step-requires
-step-requires c κs = search needs
-
 word-requires : tie.Need-word-requires
 word-requires c κs = search needs
 
+step-requires : tie.Need-step-requires
+step-requires c κs = search needs
+
 returns : tie.Need-returns
-returns c = rw (c .word .ensures, c .before .step .ensures)
+returns c = rw (c .step .ensures, c .before .word .ensures)
 
 pub next-u64-spec : {M : Type 1} → statement M
-next-u64-spec = tie.close (tie.spec step-requires word-requires returns)
+next-u64-spec = tie.close (tie.spec word-requires step-requires returns)

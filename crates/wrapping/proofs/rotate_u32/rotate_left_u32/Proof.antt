@@ -3,9 +3,9 @@ use native.Mathlib.Omega.{arith}
 use Prim.Native.Nat.{_-_, _%_}
 use mathlib.Core.Path.{sym}
 use borrow.Author.Needs.{needs}
-use Rattle.wrapping.specs.RotateLaws.{turned, turn-none, turn-whole}
-use Rattle.wrapping.proofs.rotate.rotate_left_u32.Statement.{statement}
-use Rattle.wrapping.proofs.rotate.rotate_left_u32.Tie as tie
+use Rattle.wrapping.specs.RotateLaws.{turned, turn-none}
+use Rattle.wrapping.proofs.rotate_u32.rotate_left_u32.Statement.{statement}
+use Rattle.wrapping.proofs.rotate_u32.rotate_left_u32.Tie as tie
 
 shl-result : tie.Need-shl-result
 shl-result c = search needs

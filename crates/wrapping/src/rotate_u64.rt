@@ -1,0 +1,27 @@
+// Rotations of words of 64 bits by any amount, as the Rust's `rotate_left` and `rotate_right` have them.
+ghost use mathlib.Core.Path.{_≡_};
+ghost use Rattle.wrapping.specs.Rotate.{rotateLeft, rotateRight};
+
+// x rotated left by k bits, k modulo 64.
+pub fn rotate_left_u64(x: u64, k: u32) -> u64
+    ensures { λ r. ⌜ r ≡ rotateLeft 64 x k ⌝ }
+{
+    let up = k % 64;
+    if up == 0 {
+        x
+    } else {
+        (x << up) | (x >> (64 - up))
+    }
+}
+
+// x rotated right by k bits, k modulo 64.
+pub fn rotate_right_u64(x: u64, k: u32) -> u64
+    ensures { λ r. ⌜ r ≡ rotateRight 64 x k ⌝ }
+{
+    let down = k % 64;
+    if down == 0 {
+        x
+    } else {
+        (x << (64 - down)) | (x >> down)
+    }
+}
