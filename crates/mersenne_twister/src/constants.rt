@@ -1,0 +1,24 @@
+// The numbers of MT19937, as mt19937ar.c and the Rust's mersenne_twister.rs name them.
+
+// The last row of the matrix A.
+pub(crate) const MATRIX_A: u32 = 0x9908_b0df;
+
+// The upper bit of a word, and the 31 bits below it.
+pub(crate) const UPPER_MASK: u32 = 0x8000_0000;
+
+pub(crate) const LOWER_MASK: u32 = 0x7fff_ffff;
+
+pub(crate) const TEMPERING_MASK_B: u32 = 0x9d2c_5680;
+
+pub(crate) const TEMPERING_MASK_C: u32 = 0xefc6_0000;
+
+// The multiplier of the seeding.
+pub(crate) const MULTIPLIER: u32 = 1_812_433_253;
+
+// The words of the table, and how far ahead the third word of the recurrence stands.
+pub(crate) const N: usize = 624;
+
+pub(crate) const M: usize = 397;
+
+// The position at which the next draw twists first.
+pub(crate) const END: u32 = 624;

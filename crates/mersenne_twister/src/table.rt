@@ -1,0 +1,120 @@
+// The generator over a table that the caller lends: seeding, twist and draws in place. No table is copied.
+ghost use mathlib.Core.Path.{_≡_};
+ghost use Prim.Native.Nat.{_<_};
+ghost use lib.ListN.{getD, set};
+ghost use Rattle.mersenne_twister.specs.Sequence.{follow};
+ghost use Rattle.mersenne_twister.specs.Table.{held, renewed, folded, storedPosition, seededIn, twistedIn, drawnIn, drawn64In, stepped, stepped64};
+use super::constants::END;
+use super::constants::M;
+use super::constants::N;
+use super::word::follow_word;
+use super::word::seed_step;
+use super::word::temper_word;
+
+// What a draw answers beside the table: the word, and the position after it.
+#[repr(C)]
+pub struct Step {
+    pub word: u32,
+    pub mti: u32,
+}
+
+#[repr(C)]
+pub struct Step64 {
+    pub word: u64,
+    pub mti: u32,
+}
+
+// The position that `set_mti` stores for the one that it is given.
+pub fn stored_position(value: u32) -> u32
+    ensures { λ r. ⌜ r ≡ storedPosition value ⌝ }
+{
+    if value < END { value } else { END }
+}
+
+// Seeds the table from a number; the answer is the position, at which the first draw twists.
+pub fn seed_in(mt: &mut [u32; 624], seed: u32) -> u32
+    ensures { λ r. ⌜ held (now (mt .exit)) r ≡ seededIn (now (mt .entry)) seed ⌝ }
+{
+    let mut word = seed;
+    let mut i: u32 = 0;
+    while i < END {
+        mt[i as usize] = word;
+        i += 1;
+        word = seed_step(word, i);
+    }
+    END
+}
+
+// The eight little-endian words of a seed of 32 bytes, XORed.
+pub fn fold(seed: &[u8]) -> u32
+    ensures { λ r. ⌜ r ≡ folded (now (seed .entry)) ⌝ }
+{
+    let mut word: u32 = 0;
+    let mut k: usize = 0;
+    while k < 8 {
+        word ^= wrapping::le_u32(seed, 4 * k);
+        k += 1;
+    }
+    word
+}
+
+// Seeds the table from 32 bytes; the answer is the position.
+pub fn from_seed_in(mt: &mut [u32; 624], seed: &[u8; 32]) -> u32
+    ensures { λ r. ⌜ held (now (mt .exit)) r ≡ seededIn (now (mt .entry)) (folded (now (seed .entry))) ⌝ }
+{
+    seed_in(mt, fold(seed))
+}
+
+// Entry i is renewed from itself and the entries j and k.
+fn renew_at(mt: &mut [u32; 624], i: usize, j: usize, k: usize)
+    requires { ⌜ (i < 624) × (j < 624) × (k < 624) ⌝ }
+    ensures { λ _. ⌜ now (mt .exit) ≡ set (now (mt .entry)) i (follow (getD (now (mt .entry)) i 0) (getD (now (mt .entry)) j 0) (getD (now (mt .entry)) k 0)) ⌝ }
+{
+    mt[i] = follow_word(mt[i], mt[j], mt[k]);
+}
+
+// Every entry is renewed in its turn, so that those from 227 on are made with entries already renewed.
+fn renew(mt: &mut [u32; 624])
+    ensures { λ _. ⌜ now (mt .exit) ≡ renewed 624 (now (mt .entry)) ⌝ }
+{
+    let mut i: usize = 0;
+    while i < N {
+        renew_at(mt, i, (i + 1) % N, (i + M) % N);
+        i += 1;
+    }
+}
+
+// The twist; the answer is the position.
+pub fn twist_in(mt: &mut [u32; 624]) -> u32
+    ensures { λ r. ⌜ held (now (mt .exit)) r ≡ twistedIn (now (mt .entry)) ⌝ }
+{
+    renew(mt);
+    0
+}
+
+// The next word. At position 624 or above the table is twisted first.
+pub fn rand_in(mt: &mut [u32; 624], mti: u32) -> Step
+    ensures { λ r. ⌜ stepped r (now (mt .exit)) ≡ drawnIn (now (mt .entry)) mti ⌝ }
+{
+    let mut at = mti;
+    if at >= END {
+        at = twist_in(mt);
+    }
+    let i = at as usize;
+    Step {
+        word: temper_word(mt[i]),
+        mti: at + 1,
+    }
+}
+
+// The next two words as one, the high word first.
+pub fn next_u64_in(mt: &mut [u32; 624], mti: u32) -> Step64
+    ensures { λ r. ⌜ stepped64 r (now (mt .exit)) ≡ drawn64In (now (mt .entry)) mti ⌝ }
+{
+    let high = rand_in(mt, mti);
+    let low = rand_in(mt, high.mti);
+    Step64 {
+        word: ((high.word as u64) << 32) | (low.word as u64),
+        mti: low.mti,
+    }
+}
