@@ -1,0 +1,21 @@
+-- `MersenneTwister::from_seed` meets its contract. Assumes nothing.
+use mathlib.Core.Path.{_∙_}
+use borrow.Author.Needs.{needs}
+use Rattle.mersenne_twister.proofs.MersenneTwister.from_seed.Statement.{statement}
+use Rattle.mersenne_twister.proofs.MersenneTwister.from_seed.Tie as tie
+
+slice-aggregate-fold : tie.Need-slice-aggregate-fold
+slice-aggregate-fold c = search needs
+
+fold-requires : tie.Need-fold-requires
+fold-requires c κs = search needs
+
+from-u32-seed-requires : tie.Need-from-u32-seed-requires
+from-u32-seed-requires c κs = search needs
+
+returns : tie.Need-returns
+returns c = c .from-u32-seed .ensures ∙ rw (c .before .fold .ensures)
+
+pub from-seed-spec : {M : Type 1} → statement M
+from-seed-spec =
+    tie.close (tie.spec slice-aggregate-fold fold-requires from-u32-seed-requires returns)
