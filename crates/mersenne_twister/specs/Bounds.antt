@@ -15,7 +15,7 @@ use Rattle.mersenne_twister.specs.declared.MersenneTwister.{MersenneTwis
 use Rattle.mersenne_twister.specs.Sequence.{timesA, joined, follow, terms, temper, temper1, temper2, temper3, temper4, seedStep, seedWord}
 use Rattle.mersenne_twister.specs.SequenceLaws.{length-terms, terms-at}
 use Rattle.mersenne_twister.specs.Table.{seedTable, renewAt, renewed, drawn, drawn64, after, wordOf}
-use Rattle.mersenne_twister.specs.DrawLaws.{in-low, in-high, length-next}
+use Rattle.mersenne_twister.specs.DrawLaws.{in-low, in-high, word64-is}
 
 abbrev pub Words : (t : List ℕ) → Type 0
 Words t = (j : ℕ) → getD t j 0 < 2 ^ 32
@@ -90,12 +90,12 @@ words-renewed (suc n) t w =
 
 -- ---- draws
 
-pub record Bounded (g : MersenneTwister) : Type 0 where
+pub record DrawBounds (g : MersenneTwister) : Type 0 where
   pub word : drawn g .word < 2 ^ 32
   pub table : Words (drawn g .next .mt)
 
-pub bounded : (g : MersenneTwister) → Words (g .mt) → Bounded g
-bounded g w =
+pub draw-bounds : (g : MersenneTwister) → Words (g .mt) → DrawBounds g
+draw-bounds g w =
     elim (decLe 624 (g .mti)) [
       | yes h ↦ let n : Words (renewed 624 (g .mt)) = words-renewed 624 (g .mt) w in
           record { word = rw (in-high (g .mt) (g .mti) h) (temper-lt _ (n 0)); table = rw (in-high (g .mt) (g .mti) h) n }
@@ -106,8 +106,11 @@ bounded g w =
 pub words-after : (n : ℕ) (g : MersenneTwister) → Words (g .mt) → Words (after n g .mt)
 unfolding after
 words-after zero g w = w
-words-after (suc n) g w = bounded (after n g) (words-after n g w) .table
+words-after (suc n) g w = draw-bounds (after n g) (words-after n g w) .table
 
 pub word-lt : (g : MersenneTwister) (k : ℕ) → Words (g .mt) → wordOf g k < 2 ^ 32
 unfolding wordOf
-word-lt g k w = bounded (after k g) (words-after k g w) .word
+word-lt g k w = draw-bounds (after k g) (words-after k g w) .word
+
+pub word64-lt : (g : MersenneTwister) → Words (g .mt) → drawn64 g .word < 2 ^ 64
+word64-lt g w = rw (word64-is g) (omega (arith, word-lt g 0 w, word-lt g 1 w))

@@ -4,5 +4,6 @@ pub mod SequenceLaws
 pub mod Table
 pub mod TableLaws
 pub mod DrawLaws
+pub mod SameWords
 pub mod Bounds
 pub mod Vectors

@@ -4,7 +4,7 @@ use mathlib.Core.List.{List, [], _∷_, _++_}
 use mathlib.Core.Path.{_≡_, refl, sym, ap, _∙_}
 use Prim.Native.Nat.{ℕ, zero, suc, _+_, _-_, _≤_, _<_}
 use native.Mathlib.Decide.{decLe}
-use native.Mathlib.Nat.{lt-of-not-le, zero-add, add-zero, suc-add, add-suc}
+use native.Mathlib.Nat.{lt-of-not-le, zero-add, add-zero, suc-add, add-suc, add-assoc}
 use native.Mathlib.Numerals.{one-add}
 use native.Mathlib.Omega.{arith}
 use lib.ListN.{length, getD, drop, length-append, length-drop, List·getD-append}
@@ -102,10 +102,22 @@ terms-at x k zero i h = absurd (omega arith)
 terms-at x k (suc n) zero h = ap x (sym (add-zero k))
 terms-at x k (suc n) (suc i) h = terms-at x (suc k) n i (omega arith) ∙ ap x (suc-add k i ∙ sym (add-suc k i))
 
--- 624 words moved n places are the terms from n on
-pub moved-terms : (n : ℕ) (t : List ℕ) → length t ≡ 624 → movedBy n t ≡ terms (sequence t) n 624
-moved-terms n t h =
-    let ln : length (movedBy n t) ≡ 624 = length-moved-by n t h in
-    ext-getD 0 (movedBy n t) _ (ln ∙ sym (length-terms (sequence t) n 624))
-    (λ j b. let b′ : j < 624 = omega arith in
-    sym (sequence-first (movedBy n t) j ln b′) ∙ sym (sequence-from t n j) ∙ sym (terms-at (sequence t) n 624 j b′))
+pub terms-from : (x : ℕ → ℕ) (b k n : ℕ) → terms (λ (j : ℕ). x (b + j)) k n ≡ terms x (b + k) n
+unfolding terms
+terms-from x b k zero = refl
+terms-from x b k (suc n) =
+    ap (λ (l : List ℕ). x (b + k) ∷ l) (terms-from x b (suc k) n ∙ ap (λ (j : ℕ). terms x j n) (add-suc b k))
+
+-- ---- a solution from place b on is the solution that starts with its 624 terms from there
+
+pub follows-from : {x : ℕ → ℕ} (b : ℕ) → Follows x → Follows (λ (k : ℕ). x (b + k))
+follows-from {x} b f = record { term = λ k. rw (← add-assoc b k 624, ← add-assoc b k 1, ← add-assoc b k 397) (f .term (b + k)) }
+
+pub terms-start : (x : ℕ → ℕ) (b : ℕ) → StartsWith (terms x b 624) (λ (k : ℕ). x (b + k))
+terms-start x b = record { word = λ k h. sym (terms-at x b 624 k h) }
+
+-- the words that it starts with are its first terms
+pub start-terms : (t : List ℕ) (x : ℕ → ℕ) → length t ≡ 624 → StartsWith t x → t ≡ terms x 0 624
+start-terms t x n s =
+    ext-getD 0 t _ (n ∙ sym (length-terms x 0 624))
+    (λ j h. let b : j < 624 = omega arith in sym (s .word j b) ∙ sym (terms-at x 0 624 j b ∙ ap x (zero-add j)))

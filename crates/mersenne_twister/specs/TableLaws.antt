@@ -1,4 +1,4 @@
--- The table follows the sequence: the twist in place makes the next 624 terms, and seeding in place makes the seed's table. With the laws of
+-- The table follows the sequence: the twist in place makes the next 624 terms of any sequence that starts with the table, and seeding in place makes the seed's table. With the laws of
 -- single stores that the loops of the code turn by.
 -- Assumes nothing.
 use mathlib.Core.List.{List}
@@ -10,8 +10,8 @@ use native.Mathlib.Numerals.{add-one}
 use native.Mathlib.Omega.{arith}
 use lib.ListN.{length, getD, set, length-set}
 use lib.Seq.{getD-set-same, getD-set-other, ext-getD}
-use Rattle.mersenne_twister.specs.Sequence.{follow, Follows, sequence, terms, seedWord}
-use Rattle.mersenne_twister.specs.SequenceLaws.{sequence-first, follows, length-terms, terms-at}
+use Rattle.mersenne_twister.specs.Sequence.{follow, Follows, StartsWith, terms, seedWord}
+use Rattle.mersenne_twister.specs.SequenceLaws.{length-terms, terms-at}
 use Rattle.mersenne_twister.specs.Table.{held, seedTable, seeded, stored, seededIn, renewAt, renewed}
 
 -- ---- stores in a row
@@ -58,34 +58,34 @@ unfolding renewed renewAt
 length-renewed zero t = refl
 length-renewed (suc n) t = rw length-set (length-renewed n t)
 
--- once n entries are renewed, the table holds x_n .. x_{n+623}, the term k at entry k % 624
-pub renewed-at : (n : ℕ) (t : List ℕ) → length t ≡ 624 → n ≤ 624 → (k : ℕ) → n ≤ k → k < n + 624
-    → getD (renewed n t) (k % 624) 0 ≡ sequence t k
-unfolding renewed renewAt
-renewed-at zero t len h k lo hi = ap (λ (j : ℕ). getD t j 0) (omega arith) ∙ sym (sequence-first t k len (omega arith))
-renewed-at (suc n) t len h k lo hi =
-    let held : (j : ℕ) → n ≤ j → j < n + 624 → getD (renewed n t) (j % 624) 0 ≡ sequence t j = renewed-at n t len (omega arith) in
-    let at : n % 624 ≡ n = omega arith in
-    let within : n < length (renewed n t) = omega (arith, length-renewed n t) in
-    let made : follow (getD (renewed n t) n 0) (getD (renewed n t) ((n + 1) % 624) 0) (getD (renewed n t) ((n + 397) % 624) 0) ≡ sequence t (n + 624)
-    = rw (held (n + 1) (omega arith) (omega arith), held (n + 397) (omega arith) (omega arith), rw at at (held n (omega arith) (omega arith)))
-    (sym (follows t len .term n)) in
-    ⊎-elim
-    (λ new. let e : k % 624 ≡ n = omega arith in
-    rw e (getD-set-same (renewed n t) n _ 0 within ∙ made ∙ ap (sequence t) (sym new)))
-    (λ old. getD-set-other (renewed n t) n (k % 624) _ 0 (λ e. omega arith) ∙ held k (omega arith) old)
-    (eq-or-lt-of-le (omega arith))
+module _ (t : List ℕ) (x : ℕ → ℕ) (len : length t ≡ 624) (s : StartsWith t x) (f : Follows x) where
+  -- once n entries are renewed, the table holds x_n .. x_{n+623}, the term k at entry k % 624
+  pub renewed-at : (n : ℕ) → n ≤ 624 → (k : ℕ) → n ≤ k → k < n + 624 → getD (renewed n t) (k % 624) 0 ≡ x k
+  unfolding renewed renewAt
+  renewed-at zero h k lo hi = ap (λ (j : ℕ). getD t j 0) (omega arith) ∙ sym (s .word k (omega arith))
+  renewed-at (suc n) h k lo hi =
+      let kept : (j : ℕ) → n ≤ j → j < n + 624 → getD (renewed n t) (j % 624) 0 ≡ x j = renewed-at n (omega arith) in
+      let at : n % 624 ≡ n = omega arith in
+      let within : n < length (renewed n t) = omega (arith, length-renewed n t) in
+      let made : follow (getD (renewed n t) n 0) (getD (renewed n t) ((n + 1) % 624) 0) (getD (renewed n t) ((n + 397) % 624) 0) ≡ x (n + 624)
+      = rw (kept (n + 1) (omega arith) (omega arith), kept (n + 397) (omega arith) (omega arith), rw at at (kept n (omega arith) (omega arith)))
+      (sym (f .term n)) in
+      ⊎-elim
+      (λ new. let e : k % 624 ≡ n = omega arith in
+      rw e (getD-set-same (renewed n t) n _ 0 within ∙ made ∙ ap x (sym new)))
+      (λ old. getD-set-other (renewed n t) n (k % 624) _ 0 (λ e. omega arith) ∙ kept k (omega arith) old)
+      (eq-or-lt-of-le (omega arith))
 
--- after the twist the table holds exactly x_624 .. x_1247
-pub twist-terms : (t : List ℕ) → length t ≡ 624 → renewed 624 t ≡ terms (sequence t) 624 624
-twist-terms t n =
-    ext-getD 0 (renewed 624 t) _ (length-renewed 624 t ∙ n ∙ sym (length-terms (sequence t) 624 624))
-    (λ j h. let b : j < 624 = omega (arith, length-renewed 624 t) in let e : j ≡ (624 + j) % 624 = omega arith in
-    ap (λ (i : ℕ). getD (renewed 624 t) i 0) e ∙ renewed-at 624 t n (omega arith) (624 + j) (omega arith) (omega arith)
-    ∙ sym (terms-at (sequence t) 624 624 j b))
+  -- after the twist the table holds exactly x_624 .. x_1247
+  pub twist-terms : renewed 624 t ≡ terms x 624 624
+  twist-terms =
+      ext-getD 0 (renewed 624 t) _ (length-renewed 624 t ∙ len ∙ sym (length-terms x 624 624))
+      (λ j h. let b : j < 624 = omega (arith, length-renewed 624 t) in let e : j ≡ (624 + j) % 624 = omega arith in
+      ap (λ (i : ℕ). getD (renewed 624 t) i 0) e ∙ renewed-at 624 (omega arith) (624 + j) (omega arith) (omega arith)
+      ∙ sym (terms-at x 624 624 j b))
 
 -- one turn of a loop that renews, where the code has its own numbers for the two places ahead
-pub renewed-more : (t m : List ℕ) (i j k v : ℕ) → m ≡ renewed i t → j ≡ (i + 1) % 624 → k ≡ (i + 397) % 624
-    → v ≡ follow (getD m i 0) (getD m j 0) (getD m k 0) → set m i v ≡ renewed (i + 1) t
+pub renewed-more : (t m : List ℕ) (i j k : ℕ) → m ≡ renewed i t → j ≡ (i + 1) % 624 → k ≡ (i + 397) % 624
+    → set m i (follow (getD m i 0) (getD m j 0) (getD m k 0)) ≡ renewed (i + 1) t
 unfolding renewed renewAt
-renewed-more t m i j k v p a b q = rw (q, a, b, p) (ap (λ (n : ℕ). renewed n t) (sym (add-one i)))
+renewed-more t m i j k p a b = rw (a, b, p) (ap (λ (n : ℕ). renewed n t) (sym (add-one i)))

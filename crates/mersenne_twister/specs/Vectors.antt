@@ -1,12 +1,32 @@
 -- The definitions give the words that mt19937ar.c gives, worked out here.
 -- Assumes nothing.
-use mathlib.Core.List.{[], _∷_, map}
-use mathlib.Core.Path.{_≡_, refl}
-use lib.ListN.{take}
-use Rattle.mersenne_twister.specs.Sequence.{timesA, joined, follow, terms, temper, temper1, temper2, temper3, temper4, seedStep, seedWord}
-use Rattle.mersenne_twister.specs.Table.{seedTable, renewAt, renewed}
+use mathlib.Core.List.{List, [], _∷_}
+use mathlib.Core.Path.{_≡_, refl, _∙_}
+use Prim.Native.Nat.{ℕ, _+_, _<_}
+use native.Mathlib.Omega.{arith}
+use Rattle.wrapping.specs.Bytes.{little}
+use Rattle.mersenne_twister.specs.Sequence.{timesA, joined, follow, temper, temper1, temper2, temper3, temper4, seedStep, seedWord}
+use Rattle.mersenne_twister.specs.Table.{seeded, wordsXored, folded, wordOf}
+use Rattle.mersenne_twister.specs.SameWords.{early-words}
 
--- the first five words of the seed 5489, with which mt19937ar.c seeds itself where its user does not
-seed-5489 : map temper (take 5 (renewed 5 (seedTable 5489))) ≡ 3499211612 ∷ 581869302 ∷ 3890346734 ∷ 3586334585 ∷ 545404204 ∷ []
-unfolding timesA joined follow renewAt renewed terms seedStep seedWord seedTable temper temper1 temper2 temper3 temper4
-seed-5489 = refl
+-- the first words of the seed 5489, with which mt19937ar.c seeds itself where its user does not
+
+word-0 : wordOf (seeded 5489) 0 ≡ 3499211612
+unfolding timesA joined follow seedStep seedWord temper temper1 temper2 temper3 temper4
+word-0 = early-words 5489 0 (omega arith)
+
+word-1 : wordOf (seeded 5489) 1 ≡ 581869302
+unfolding timesA joined follow seedStep seedWord temper temper1 temper2 temper3 temper4
+word-1 = early-words 5489 1 (omega arith)
+
+word-2 : wordOf (seeded 5489) 2 ≡ 3890346734
+unfolding timesA joined follow seedStep seedWord temper temper1 temper2 temper3 temper4
+word-2 = early-words 5489 2 (omega arith)
+
+-- 32 bytes: counted up from 1, and all equal, which fold to 0
+
+counted : folded
+    (1 ∷ 2 ∷ 3 ∷ 4 ∷ 5 ∷ 6 ∷ 7 ∷ 8 ∷ 9 ∷ 10 ∷ 11 ∷ 12 ∷ 13 ∷ 14 ∷ 15 ∷ 16 ∷ 17 ∷ 18 ∷ 19 ∷ 20 ∷ 21 ∷ 22 ∷ 23 ∷ 24 ∷ 25 ∷ 26 ∷ 27 ∷ 28 ∷ 29 ∷ 30 ∷ 31 ∷ 32 ∷ [])
+    ≡ 0x20000000
+unfolding little wordsXored
+counted = refl

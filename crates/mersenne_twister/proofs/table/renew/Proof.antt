@@ -1,5 +1,5 @@
 -- `renew` meets its contract. The invariant: the first i entries are renewed, in place. Assumes nothing.
-use mathlib.Core.Path.{_≡_, _∙_, refl}
+use mathlib.Core.Path.{_≡_, _∙_}
 use Prim.Native.Nat.{_-_, _≤_}
 use native.Mathlib.Omega.{arith}
 use borrow.Author.Needs.{needs}
@@ -36,7 +36,7 @@ loop-less c = search needs
 loop-again : tie.Need-loop-again Inv-loop μ-loop
 loop-again c =
     let k = c .before .before .before .loop in
-    (search needs, c .renew-at .ensures ∙ renewed-more _ (k .mt) (k .i) _ _ _ (k .inv .1) refl refl refl)
+    (search needs, rw (c .renew-at .ensures) (renewed-more _ _ (k .i) _ _ (k .inv .1) (omega arith) (omega arith)))
 
 returns : tie.Need-returns Inv-loop μ-loop
 returns c =
