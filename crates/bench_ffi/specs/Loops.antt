@@ -1,6 +1,9 @@
 -- The loops' answers: the XOR of the next n words, and the generator after them.
 use Prim.Native.Nat.{ℕ}
 use Rattle.bench_ffi.specs.Steps.{after, xorOf}
+use Rattle.mersenne_twister.specs.Table as twister
+use Rattle.mersenne_twister.specs.declared.Drawn as drawn-twister
+use Rattle.mersenne_twister.specs.declared.MersenneTwister.{MersenneTwister}
 use Rattle.pcg.specs.Pcg32 as pcg32
 use Rattle.pcg.specs.Pcg64 as pcg64
 use Rattle.pcg.specs.declared.pcg32.Drawn32 as drawn-pcg32
@@ -19,3 +22,13 @@ pcg32Words n g = record { word = xorOf pcg32.stepped pcg32.wordOf n g; next = af
 
 abbrev pub pcg64Words : ℕ → Pcg64 → drawn-pcg64.Drawn64
 pcg64Words n g = record { word = xorOf pcg64.stepped pcg64.wordOf n g; next = after pcg64.stepped n g }
+
+-- the twister's state and word, off a draw
+abbrev pub twisterStep : MersenneTwister → MersenneTwister
+twisterStep g = twister.drawn g .next
+
+abbrev pub twisterWord : MersenneTwister → ℕ
+twisterWord g = twister.drawn g .word
+
+abbrev pub twisterWords : ℕ → MersenneTwister → drawn-twister.Drawn
+twisterWords n g = record { word = xorOf twisterStep twisterWord n g; next = after twisterStep n g }

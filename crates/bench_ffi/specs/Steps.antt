@@ -1,6 +1,6 @@
 -- Words in a row of any generator: A is its state, `step` the state after one, and `word` what a state gives.
 -- Assumes nothing.
-use mathlib.Core.Path.{_≡_, refl, ap, ap₂}
+use mathlib.Core.Path.{_≡_, refl, _∙_, ap, ap₂}
 use Prim.Native.Nat.{ℕ, zero, suc, _+_}
 use native.Mathlib.Numerals.{add-one}
 use lib.Bits.{bitXor}
@@ -25,6 +25,8 @@ module _ {A : Type 0} (step : A → A) (word : A → ℕ) (a : A) where
   unfolding after xorOf
   came-nowhere = record { state = refl; xor = refl }
 
-  pub came-further : (n : ℕ) (b : A) (sum : ℕ) → Came step word a n b sum → Came step word a (n + 1) (step b) (bitXor sum (word b))
+  pub came-further : (n : ℕ) (b next : A) (sum w : ℕ) → Came step word a n b sum → next ≡ step b → w ≡ word b
+      → Came step word a (n + 1) next (bitXor sum w)
   unfolding after xorOf
-  came-further n b sum c = rw add-one (record { state = ap step (c .state); xor = ap₂ bitXor (c .xor) (ap word (c .state)) })
+  came-further n b next sum w c e f =
+      rw add-one (record { state = e ∙ ap step (c .state); xor = ap₂ bitXor (c .xor) (f ∙ ap word (c .state)) })

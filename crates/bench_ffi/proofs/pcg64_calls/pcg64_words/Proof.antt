@@ -29,7 +29,8 @@ loop-less c = omega arith
 loop-again : tie.Need-loop-again Inv-loop μ-loop
 loop-again c =
     let loop = c .before .before .before .before .loop in
-    (omega arith, rw (c .before .before .next-u64 .ensures) (came-further stepped wordOf _ (loop .i) (loop .next) (loop .word) (loop .inv .1)))
+    let drawn = c .before .before .next-u64 .ensures in
+    (omega arith, came-further stepped wordOf _ (loop .i) (loop .next) _ (loop .word) _ (loop .inv .1) (rw drawn) (rw drawn))
 
 returns : tie.Need-returns Inv-loop μ-loop
 returns c =
