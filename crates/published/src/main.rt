@@ -1,7 +1,9 @@
 // Compares the generators, word by word, with what their authors published and with other implementations, and tells what was
 // compared and how many words agree.
+mod init_by_array;
 mod report;
 mod source;
+mod twister;
 mod vectors;
 
 use pcg::Pcg32;
@@ -66,4 +68,5 @@ fn compare_xoshiro() {
 fn main() {
     compare_pcg();
     compare_xoshiro();
+    twister::compare();
 }
