@@ -1,0 +1,37 @@
+-- `words::is_good` meets its contract: each way out cites one law of the threshold.
+use mathlib.Core.Path.{_≡_, sym}
+use Prim.Native.Nat.{_<_}
+use native.Mathlib.Omega.{arith}
+use borrow.Author.Needs.{needs}
+use Rattle.words.specs.Threshold.{none-for-zero, good-from-r, good-by-threshold}
+use Rattle.words.proofs.is_good.Statement.{statement}
+use Rattle.words.proofs.is_good.Tie as tie
+
+returns : tie.Need-returns
+returns c = sym (none-for-zero (c .before .args .r) (c .before .args .w) (c .if1 .taken))
+
+product-requires : tie.Need-product-requires
+product-requires c κs = search needs
+
+threshold-requires : tie.Need-threshold-requires
+threshold-requires c κs = search needs
+
+cast-result : tie.Need-cast-result
+cast-result c = search needs
+
+returns-2 : tie.Need-returns-2
+returns-2 c =
+    let p = c .before .before in
+    let a = p .before .before .args in
+    rw (c .threshold .ensures) (sym (good-by-threshold (a .r) (a .w) (p .product .result) (p .product .ensures) (omega arith)))
+
+returns-3 : tie.Need-returns-3
+returns-3 c =
+    let p = c .before in
+    let a = p .before .before .args in
+    sym (good-from-r (a .r) (a .w) (p .product .result) (p .product .ensures) (omega arith) (omega arith))
+
+pub is-good-spec : {M : Type 1} → statement M
+is-good-spec =
+    tie.close
+    (tie.spec returns product-requires threshold-requires cast-result returns-2 returns-3)

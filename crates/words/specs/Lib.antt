@@ -1,0 +1,5 @@
+pub mod Refusal
+pub mod Draw
+pub mod FirstPlace
+pub mod Product
+pub mod Threshold

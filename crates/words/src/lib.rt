@@ -1,0 +1,45 @@
+// The arithmetic of a draw below r, for code over any source of words. Every function is total.
+ghost use mathlib.Core.Path.{_≡_};
+ghost use Prim.Native.Nat.{_*_};
+ghost use Rattle.words.specs.Draw.{good, quotient};
+ghost use Rattle.words.specs.Threshold.{threshold};
+
+pub mod refusal;
+
+// The whole product of a word and r.
+pub fn product(w: u32, r: u32) -> u64
+    ensures { λ p. ⌜ p ≡ w * r ⌝ }
+{
+    (w as u64) * (r as u64)
+}
+
+// 2^32 mod r, as the Rust works it out, without a number above 32 bits; and 0 where r is 0.
+pub fn threshold(r: u32) -> u32
+    ensures { λ t. ⌜ t ≡ threshold r ⌝ }
+{
+    if r == 0 {
+        return 0;
+    }
+    (4294967295 - r + 1) % r
+}
+
+// Whether a word is good for r: 2^32 mod r is worked out only where the remainder is below r. No word is good for 0.
+pub fn is_good(w: u32, r: u32) -> bool
+    ensures { λ b. ⌜ b ≡ good r w ⌝ }
+{
+    if r == 0 {
+        return false;
+    }
+    let low = product(w, r) % 4294967296;
+    if low < r as u64 {
+        return low >= threshold(r) as u64;
+    }
+    true
+}
+
+// The quotient that a good word draws.
+pub fn quotient(w: u32, r: u32) -> u32
+    ensures { λ q. ⌜ q ≡ quotient r w ⌝ }
+{
+    (product(w, r) / 4294967296) as u32
+}

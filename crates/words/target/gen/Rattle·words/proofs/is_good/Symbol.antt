@@ -1,0 +1,1 @@
+pub use Rattle.words.proofs.is_good.Symbol.{routine, name}

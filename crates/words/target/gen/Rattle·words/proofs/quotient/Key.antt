@@ -1,0 +1,1 @@
+pub use Rattle.words.proofs.quotient.Key.{name}

@@ -1,0 +1,20 @@
+pub use Rattle.words.specs.Draw.{
+  Words,
+  after,
+  listed,
+  good,
+  quotient,
+  Found,
+  at,
+  nowhere,
+  Outcome,
+  refused,
+  gives,
+  settledBy,
+  Drawn,
+  all,
+  short,
+  more,
+  outcomeOf,
+}
+unfoldable pub use Rattle.words.specs.Draw.{first, firstGood, boundedBy, draws}

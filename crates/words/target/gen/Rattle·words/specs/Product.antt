@@ -1,0 +1,1 @@
+pub use Rattle.words.specs.Product.{product-fits}

@@ -1,0 +1,5 @@
+pub mod is_good
+pub mod product
+pub mod quotient
+pub mod refusal
+pub mod threshold

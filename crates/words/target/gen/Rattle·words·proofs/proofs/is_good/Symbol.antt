@@ -1,0 +1,2 @@
+pub use Rattle.words.proofs.is_good.Code.{routine}
+pub use Rattle.words.proofs.is_good.Key.{name}

@@ -1,0 +1,53 @@
+-- the `use` lines below are this print's own: the module states none of them
+use Rattle.words.proofs.product.Code
+use Rattle.words.proofs.product.Key
+use Rattle.words.proofs.product.Kinds
+use Rattle.words.proofs.product.Lts
+use Rattle.words.proofs.product.Reads
+use Rattle.words.proofs.product.Statement
+use borrow.Fn.Run
+use borrow.Fn.Written
+use contract.Running
+
+abbrev pub Start : Type 0
+Start = Lts.Start Reads.Pre Reads.Post
+
+abbrev pub Need-mul-result : Type 0
+Need-mul-result = Lts.Need-mul-result Reads.Pre Reads.Post
+
+abbrev pub Need-returns : Type 0
+Need-returns = Lts.Need-returns Reads.Pre Reads.Post
+
+module _ {M : Type 1} where
+  pub spec :
+      (answer : Need-mul-result) → (answer : Need-returns) → Lts.Closed Reads.Pre Reads.Post M
+  spec = λ answer answer'. Lts.spec Reads.Pre Reads.Post answer answer'
+
+  pub close : Lts.Closed Reads.Pre Reads.Post M → Statement.statement M
+  unfolding Code.routine Running.tablesOf
+  close =
+      λ closed 𝓤 H 𝓜 𝓖 𝓡. Written.close
+      0
+      Kinds.ps
+      Kinds.r
+      Reads.Ghost
+      Reads.requires
+      Reads.ensures
+      Reads.pre-read
+      Reads.Pinned
+      Reads.Owned
+      Reads.post-read
+      record { M = M; 𝓤 = 𝓤; H = H; 𝓜 = 𝓜; 𝓖 = 𝓖; 𝓡 = 𝓡 }
+      Code.env
+      Key.name
+      Code.function
+      (Code.unfolded 𝓤 H 𝓜 𝓡)
+      (λ κs a g. tt)
+      (λ κs. Reads.owns κs record { M = M; 𝓤 = 𝓤; H = H; 𝓜 = 𝓜; 𝓖 = 𝓖; 𝓡 = 𝓡 })
+      (Reads.passes record { M = M; 𝓤 = 𝓤; H = H; 𝓜 = 𝓜; 𝓖 = 𝓖; 𝓡 = 𝓡 })
+      λ g. closed
+      𝓤
+      H
+      (𝓖 .A)
+      (Running.givenOf 𝓤 H 𝓜 𝓖)
+      (Run.Over 𝓤 H 𝓜 𝓖 𝓡 Code.env)

@@ -1,0 +1,81 @@
+-- the `use` lines below are this print's own: the module states none of them
+use mathlib.Core.List
+use mir.Syntax
+
+abbrev pub locals : List.List Syntax.Local
+locals =
+    List._∷_
+    (Syntax.local (Syntax.tyInt Syntax.w32) Syntax.valueLocal)
+    (List._∷_
+    (Syntax.local (Syntax.tyInt Syntax.w32) Syntax.valueLocal)
+    (List._∷_
+    (Syntax.local Syntax.tyBool Syntax.valueLocal)
+    (List._∷_
+    (Syntax.local (Syntax.tyInt Syntax.w32) Syntax.valueLocal)
+    (List._∷_ (Syntax.local (Syntax.tyInt Syntax.w32) Syntax.valueLocal) List.[]))))
+
+abbrev pub s-1 : Syntax.Body
+s-1 =
+    Syntax.assign
+    (Syntax.place 2 List.[])
+    (Syntax.op2 Syntax.eq (Syntax.copy (Syntax.place 1 List.[])) (Syntax.int Syntax.w32 0))
+
+abbrev pub s-2 : Syntax.Body
+s-2 =
+    Syntax.cond
+    (Syntax.copy (Syntax.place 2 List.[]))
+    (Syntax.seq
+    (Syntax.assign (Syntax.place 0 List.[]) (Syntax.rvOpd (Syntax.int Syntax.w32 0)))
+    Syntax.return)
+    Syntax.skip
+
+abbrev pub s-3 : Syntax.Body
+s-3 =
+    Syntax.assign
+    (Syntax.place 3 List.[])
+    (Syntax.op2
+    (Syntax.sub Syntax.unsigned)
+    (Syntax.intNeg Syntax.w32 1)
+    (Syntax.copy (Syntax.place 1 List.[])))
+
+abbrev pub s-4 : Syntax.Body
+s-4 =
+    Syntax.assign
+    (Syntax.place 4 List.[])
+    (Syntax.op2
+    (Syntax.add Syntax.unsigned)
+    (Syntax.copy (Syntax.place 3 List.[]))
+    (Syntax.int Syntax.w32 1))
+
+abbrev pub s-5 : Syntax.Body
+s-5 =
+    Syntax.assign
+    (Syntax.place 0 List.[])
+    (Syntax.op2
+    (Syntax.rem Syntax.unsigned)
+    (Syntax.copy (Syntax.place 4 List.[]))
+    (Syntax.copy (Syntax.place 1 List.[])))
+
+abbrev pub s-6 : Syntax.Body
+s-6 = Syntax.return
+
+abbrev pub t-6 : Syntax.Body
+t-6 = s-6
+
+abbrev pub t-5 : Syntax.Body
+t-5 = Syntax.seq s-5 t-6
+
+abbrev pub t-4 : Syntax.Body
+t-4 = Syntax.seq s-4 t-5
+
+abbrev pub t-3 : Syntax.Body
+t-3 = Syntax.seq s-3 t-4
+
+abbrev pub t-2 : Syntax.Body
+t-2 = Syntax.seq s-2 t-3
+
+abbrev pub t-1 : Syntax.Body
+t-1 = Syntax.seq s-1 t-2
+
+abbrev pub function : Syntax.Fn
+function = record { lifetimes = 0; outlives = List.[]; params = 1; locals = locals; body = t-1 }
