@@ -73,7 +73,7 @@ pub data Drawn : Type 0 where
 -- One draw more in front, of value v, that used n words.
 abbrev pub more : ℕ → ℕ → Drawn → Drawn
 more v n (all vs m) = all (v ∷ vs) (n + m)
-more v n (short settled) = short (settled + 1)
+more v n (short m) = short (m + 1)
 
 -- DRAWS below each bound of a list, "draw after draw under one budget": each starts just past the word that settled the one before it,
 -- with the budget that is left.
@@ -85,4 +85,4 @@ draws s (r ∷ rs) budget =
 -- The outcome of a call that makes these draws and works its value out of theirs.
 abbrev pub outcomeOf : (List ℕ → ℕ) → Drawn → Outcome
 outcomeOf value (all vs n) = gives (value vs) n
-outcomeOf value (short settled) = refused outOfBudget
+outcomeOf value (short m) = refused outOfBudget

@@ -1,5 +1,11 @@
 pub mod Refusal
 pub mod Draw
 pub mod FirstPlace
+pub mod GoodWord
 pub mod Product
 pub mod Threshold
+pub mod OneOutcome
+pub mod AnsweredExactlyIf
+pub mod AnswerIsFirst
+pub mod OneOutcomeOfDraws
+pub mod DrawAfterDraw

@@ -5,9 +5,10 @@ use mathlib.Core.Bool.{Bool, true, false, cond}
 use Prim.Native.Nat.{ℕ, _+_, _-_, _*_, _%_, _^_, _<_, _≤_}
 use native.Mathlib.Omega.{arith}
 use native.Mathlib.Nat.{mod-lt, mod-eq-sub-mod}
-use lib.Dec.{leb, eqb, lit<}
+use lib.Dec.{leb, eqb}
 use borrow.Author.Tests.{eq-eqb, ne-eqb, le-leb, lt-leb}
 use Rattle.words.specs.Draw.{good}
+use Rattle.words.specs.GoodWord.{fails-for-zero}
 
 -- 2^32 mod r; and 0 where r is 0, for which no word is good.
 abbrev pub threshold : ℕ → ℕ
@@ -30,7 +31,7 @@ threshold-below r h = rw (threshold-positive r h) (mod-lt (2 ^ 32) h)
 
 -- No word is good for 0.
 pub none-for-zero : (r w : ℕ) → r ≡ 0 → good r w ≡ false
-none-for-zero r w z = rw z (lt-leb (2 ^ 32 % 0) ((w * 0) % 2 ^ 32) (mod-lt (w * 0) (lit< tt)))
+none-for-zero r w z = rw z (lt-leb (2 ^ 32 % 0) ((w * 0) % 2 ^ 32) (fails-for-zero w))
 
 -- How the code tells whether a word w is good, by its product p with r.
 module _ (r w p : ℕ) (product : p ≡ w * r) (pos : 0 < r) where
