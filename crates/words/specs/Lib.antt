@@ -9,3 +9,9 @@ pub mod AnsweredExactlyIf
 pub mod AnswerIsFirst
 pub mod OneOutcomeOfDraws
 pub mod DrawAfterDraw
+pub mod LargerBudget
+pub mod WordsWithinBudget
+pub mod Settled
+pub mod BelowItsBound
+pub mod Count
+pub mod EqualShares
