@@ -15,3 +15,5 @@ pub mod Settled
 pub mod BelowItsBound
 pub mod Count
 pub mod EqualShares
+pub mod DrawLoop
+pub mod DrawsLoop
