@@ -17,3 +17,5 @@ pub mod Count
 pub mod EqualShares
 pub mod DrawLoop
 pub mod DrawsLoop
+pub mod Table
+pub mod Bench
