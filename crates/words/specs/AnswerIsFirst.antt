@@ -1,6 +1,6 @@
 -- "The answer is the quotient for the first such word, and the generator stands just past it" (the order, demand 3): the words used are
 -- the place, counted from 1, of the first good word.
-use mathlib.Core.Path.{_≡_, refl, sym, _∙_, ap}
+use mathlib.Core.Path.{_≡_, refl, sym}
 use Prim.Native.Nat.{ℕ, _+_, _*_, _/_, _^_}
 use native.Mathlib.Omega.{arith}
 use Rattle.words.specs.Refusal.{answered}

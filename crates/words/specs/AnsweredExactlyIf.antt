@@ -1,13 +1,13 @@
 -- "A draw below r > 0 with budget B is answered exactly if, among the generator's next B words, some word's product with r leaves at least
 -- 2^32 mod r when divided by 2^32" (the order, demand 3): both directions, for any sequence of words.
-use mathlib.Core.Path.{_≡_, refl, sym, _∙_, ap}
+use mathlib.Core.Path.{_≡_, refl}
 use mathlib.Core.Logic.{_↔_}
 use Prim.Native.Nat.{ℕ, _<_}
 use native.Mathlib.Omega.{arith}
-use Rattle.words.specs.Refusal.{answered, zeroRange, outOfBudget}
-use Rattle.words.specs.Draw.{Words, Outcome, boundedBy, refused}
-use Rattle.words.specs.GoodWord.{Passes, NoneGood}
-use Rattle.words.specs.OneOutcome.{Bounded, zero-range, answers, out-of-budget, bounded-is, bounded-only}
+use Rattle.words.specs.Refusal.{answered}
+use Rattle.words.specs.Draw.{Words, Outcome, boundedBy}
+use Rattle.words.specs.GoodWord.{Passes}
+use Rattle.words.specs.OneOutcome.{Bounded, zero-range, answers, out-of-budget, bounded-is}
 
 pub answered-exactly-if : (s : Words) (r budget : ℕ) → 0 < r
     → (boundedBy s r budget .refusal ≡ answered) ↔ ((k : ℕ) × (k < budget) × Passes r (s k))

@@ -1,13 +1,13 @@
 -- Every answered value is below its bound, where the words have 32 bits: of one draw, and of draws below a list one for one.
-use mathlib.Core.Path.{_≡_, refl, sym, _∙_, ap}
-use mathlib.Core.List.{List, [], _∷_}
-use Prim.Native.Nat.{ℕ, zero, suc, _+_, _*_, _/_, _^_, _<_}
+use mathlib.Core.Path.{_≡_}
+use mathlib.Core.List.{List}
+use Prim.Native.Nat.{ℕ, zero, suc, _+_, _^_, _<_}
 use native.Mathlib.Omega.{arith}
 use native.Mathlib.Nat.{mul-comm, mul-lt-mul-of-pos-right, div-lt-iff-lt-mul}
 use lib.Dec.{lit<}
 use lib.ListN.{length, getD}
 use Rattle.words.specs.Refusal.{answered}
-use Rattle.words.specs.Draw.{Words, after, quotient, Outcome, boundedBy, Drawn, all, draws}
+use Rattle.words.specs.Draw.{Words, quotient, boundedBy, all, draws}
 use Rattle.words.specs.GoodWord.{FirstGood, passes-positive}
 use Rattle.words.specs.AnswerIsFirst.{answer-is-first}
 use Rattle.words.specs.OneOutcomeOfDraws.{Drawing, done, settled, drawing-is}

@@ -1,9 +1,9 @@
 -- The rows of document 01's bench examples, those marked *, that draw below a bound from given words: one table, for the single table of
 -- all of them.
-use mathlib.Core.Path.{_≡_, refl}
-use mathlib.Core.Bool.{Bool, true, false, _&&_}
+use mathlib.Core.Path.{refl}
+use mathlib.Core.Bool.{_&&_}
 use mathlib.Core.List.{List, [], _∷_}
-use Prim.Native.Nat.{ℕ, _+_, _*_, _/_, _%_, _^_}
+use Prim.Native.Nat.{ℕ, _+_, _*_, _%_, _^_}
 use lib.Dec.{eqb, lit<}
 use Rattle.words.specs.Refusal.{outOfBudget}
 use Rattle.words.specs.Draw.{listed, good, quotient, first, firstGood, Outcome, gives, refused, boundedBy}

@@ -2,13 +2,13 @@
 -- such a draw tells at its end (`Told`), with one law for each way through the loop.
 use mathlib.Core.Path.{_≡_, refl, sym, _∙_, ap, ap₂}
 use mathlib.Core.Bool.{Bool, true, false, cond, true≢false}
-use Prim.Native.Nat.{ℕ, _+_, _*_, _%_, _^_, _≤_, _<_}
+use Prim.Native.Nat.{ℕ, _+_, _≤_, _<_}
 use native.Mathlib.Omega.{arith}
 use lib.Dec.{leb, eqb}
 use borrow.Author.Tests.{eq-eqb, ne-eqb, leb-true, leb-false}
 use Rattle.words.specs.Refusal.{outOfBudget}
-use Rattle.words.specs.Draw.{Words, good, quotient, Found, at, nowhere, firstGood, Outcome, refused, gives, boundedBy}
-use Rattle.words.specs.GoodWord.{Fails, fails-for-zero, FirstGood, NoneGood, Looked, found, none, look, first-found, none-found}
+use Rattle.words.specs.Draw.{Words, good, quotient, Found, at, nowhere, firstGood, refused, gives, boundedBy}
+use Rattle.words.specs.GoodWord.{Fails, good-passes, bad-fails, fails-for-zero, FirstGood, NoneGood, Looked, found, none, look, first-found, none-found}
 use Rattle.words.specs.OneOutcome.{out-of-budget, bounded-only}
 use Rattle.words.specs.AnswerIsFirst.{first-is-answer}
 use Rattle.words.specs.BelowItsBound.{WordSized, first-below}
@@ -53,7 +53,7 @@ module _ (s : Words) (r budget used : ℕ) (h : Searching s r budget used) where
   pub searching-good : {w v : ℕ} {b : Bool} → used < budget → w ≡ s used → b ≡ good r w → b ≡ true → v ≡ quotient r w
       → Told s r budget true v (used + 1)
   searching-good {w} u e g t q =
-      let passes = leb-true (2 ^ 32 % r) ((s used * r) % 2 ^ 32) (ap (good r) (sym e) ∙ sym g ∙ t) in
+      let passes = good-passes r (s used) (ap (good r) (sym e) ∙ sym g ∙ t) in
       let f = first-found s r budget (record { among = u; passes = passes; none-before = h .none-yet }) in
       record { found = rw f; value = rw f (q ∙ ap (quotient r) e); taken = rw f }
 
@@ -62,7 +62,7 @@ module _ (s : Words) (r budget used : ℕ) (h : Searching s r budget used) where
   searching-bad {w} u e g t = record { within-budget = omega arith; none-yet = none-yet }
     where
       fails : Fails r (s used)
-      fails = leb-false (2 ^ 32 % r) ((s used * r) % 2 ^ 32) (ap (good r) (sym e) ∙ sym g ∙ t)
+      fails = bad-fails r (s used) (ap (good r) (sym e) ∙ sym g ∙ t)
 
       none-yet : NoneGood s r (used + 1)
       none-yet j k = go (leb used j) refl

@@ -6,7 +6,7 @@ use mathlib.Core.List.{List, [], _∷_, _++_, append-assoc, append-nil}
 use Prim.Native.Nat.{ℕ, _+_, _-_, _≤_}
 use native.Mathlib.Omega.{arith}
 use lib.ListN.{length, length-append}
-use Rattle.words.specs.Draw.{Words, after, quotient, Drawn, all, short, draws}
+use Rattle.words.specs.Draw.{Words, after, all, short, draws}
 use Rattle.words.specs.OneOutcomeOfDraws.{draws-done}
 use Rattle.words.specs.DrawAfterDraw.{next-settled, next-short}
 use Rattle.words.specs.Settled.{all-settled}

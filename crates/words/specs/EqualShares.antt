@@ -7,7 +7,7 @@ use native.Mathlib.Nat.{add-mul, one-mul, mul-comm, mul-le-mul-right, div-add-mo
 use borrow.Author.Tests.{leb-true, leb-false, ltb-true, ltb-false, eqb-true, le-leb, lt-ltb, eq-eqb}
 use lib.Dec.{leb, ltb, eqb, lit<}
 use Rattle.words.specs.Draw.{good, quotient}
-use Rattle.words.specs.Count.{count}
+use Rattle.words.specs.Count.{count, count-none, count-next}
 
 -- two tests that pass at the same places
 same-test : (a b : Bool) → (a ≡ true → b ≡ true) → (b ≡ true → a ≡ true) → a ≡ b
@@ -31,9 +31,8 @@ abbrev inside : ℕ → ℕ → ℕ → Bool
 inside a e w = leb a w && ltb w e
 
 count-inside : (a e n : ℕ) → a ≤ e → count (inside a e) n ≡ (n - a) - (n - e)
-unfolding count
-count-inside a e zero h = omega arith
-count-inside a e (suc n) h = go (leb a n) refl (ltb n e) refl (count-inside a e n h)
+count-inside a e zero h = omega (arith, count-none (inside a e))
+count-inside a e (suc n) h = count-next (inside a e) n ∙ go (leb a n) refl (ltb n e) refl (count-inside a e n h)
   where
     go : (x : Bool) → leb a n ≡ x → (y : Bool) → ltb n e ≡ y → count (inside a e) n ≡ (n - a) - (n - e)
         → cond (leb a n && ltb n e) 1 0 + count (inside a e) n ≡ (suc n - a) - (suc n - e)

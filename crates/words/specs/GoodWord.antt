@@ -1,13 +1,13 @@
 -- The order's test of a word in plain numbers, the first good word among the next B, and that `firstGood` finds exactly that one.
-use mathlib.Core.Path.{_≡_, refl, sym, _∙_, ap}
+use mathlib.Core.Path.{_≡_, refl, sym}
 use mathlib.Core.Bool.{Bool, true, false}
 use Prim.Native.Nat.{ℕ, zero, suc, _*_, _%_, _^_, _≤_, _<_}
 use native.Mathlib.Omega.{arith}
 use native.Mathlib.Nat.{mod-lt}
 use lib.Dec.{lit<}
 use borrow.Author.Tests.{leb-true, leb-false, le-leb, lt-leb}
-use Rattle.words.specs.Draw.{Words, good, Found, at, nowhere, first, firstGood}
-use Rattle.words.specs.FirstPlace.{FirstAt, NoneAt, Searched, hit, miss, searched, searched-only}
+use Rattle.words.specs.Draw.{Words, good, Found, at, nowhere, firstGood}
+use Rattle.words.specs.FirstPlace.{Searched, hit, miss, searched, searched-only}
 
 -- "[its] product with r leaves at least 2^32 mod r when divided by 2^32" (the order, demand 3); and that it leaves less.
 abbrev pub Passes : ℕ → ℕ → Type 0
@@ -15,6 +15,20 @@ Passes r w = 2 ^ 32 % r ≤ (w * r) % 2 ^ 32
 
 abbrev pub Fails : ℕ → ℕ → Type 0
 Fails r w = (w * r) % 2 ^ 32 < 2 ^ 32 % r
+
+-- `good` is that test.
+module _ (r w : ℕ) where
+  pub good-passes : good r w ≡ true → Passes r w
+  good-passes = leb-true (2 ^ 32 % r) ((w * r) % 2 ^ 32)
+
+  pub passes-good : Passes r w → good r w ≡ true
+  passes-good = le-leb (2 ^ 32 % r) ((w * r) % 2 ^ 32)
+
+  pub bad-fails : good r w ≡ false → Fails r w
+  bad-fails = leb-false (2 ^ 32 % r) ((w * r) % 2 ^ 32)
+
+  pub fails-bad : Fails r w → good r w ≡ false
+  fails-bad = lt-leb (2 ^ 32 % r) ((w * r) % 2 ^ 32)
 
 -- No word passes for 0.
 pub fails-for-zero : (w : ℕ) → Fails 0 w
@@ -53,10 +67,10 @@ module _ (s : Words) (r budget : ℕ) where
           found k e
           (record {
             among = let u = f .before-end in omega arith;
-            passes = leb-true (2 ^ 32 % r) ((s k * r) % 2 ^ 32) (f .passes);
-            none-before = λ j h. leb-false (2 ^ 32 % r) ((s j * r) % 2 ^ 32) (f .missed j (omega arith) h);
+            passes = good-passes r (s k) (f .passes);
+            none-before = λ j h. bad-fails r (s j) (f .missed j (omega arith) h);
           })
-      go _ e (miss f) = none e (λ j h. leb-false (2 ^ 32 % r) ((s j * r) % 2 ^ 32) (f j (omega arith) (omega arith)))
+      go _ e (miss f) = none e (λ j h. bad-fails r (s j) (f j (omega arith) (omega arith)))
 
   -- and `firstGood` tells which
   pub first-found : {k : ℕ} → FirstGood s r budget k → firstGood s r budget ≡ at k
@@ -67,10 +81,10 @@ module _ (s : Words) (r budget : ℕ) where
       (record {
         from = omega arith;
         before-end = let u = f .among in omega arith;
-        passes = le-leb (2 ^ 32 % r) ((s k * r) % 2 ^ 32) (f .passes);
-        missed = λ j a h. lt-leb (2 ^ 32 % r) ((s j * r) % 2 ^ 32) (f .none-before j h);
+        passes = passes-good r (s k) (f .passes);
+        missed = λ j a h. fails-bad r (s j) (f .none-before j h);
       })))
 
   pub none-found : NoneGood s r budget → firstGood s r budget ≡ nowhere
   unfolding test firstGood
-  none-found f = sym (searched-only test budget 0 (miss (λ j a h. lt-leb (2 ^ 32 % r) ((s j * r) % 2 ^ 32) (f j (omega arith)))))
+  none-found f = sym (searched-only test budget 0 (miss (λ j a h. fails-bad r (s j) (f j (omega arith)))))

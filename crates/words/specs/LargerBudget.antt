@@ -2,10 +2,10 @@
 -- works its answer out of such draws.
 use mathlib.Core.Path.{_≡_, refl, sym, _∙_}
 use mathlib.Core.List.{List}
-use Prim.Native.Nat.{ℕ, _+_, _-_, _≤_}
+use Prim.Native.Nat.{ℕ, _≤_}
 use native.Mathlib.Omega.{arith}
 use Rattle.words.specs.Refusal.{answered}
-use Rattle.words.specs.Draw.{Words, after, boundedBy, Drawn, all, short, draws, outcomeOf}
+use Rattle.words.specs.Draw.{Words, boundedBy, Drawn, all, short, draws, outcomeOf}
 use Rattle.words.specs.GoodWord.{FirstGood}
 use Rattle.words.specs.AnswerIsFirst.{answer-is-first, first-is-answer}
 use Rattle.words.specs.OneOutcomeOfDraws.{Drawing, done, settled, drawing-is, drawing-only}

@@ -1,11 +1,10 @@
 -- Exactly one outcome: a draw below r, said as a relation in the order's words, has the outcome `boundedBy` and no other.
 use mathlib.Core.Path.{_≡_, refl, sym, _∙_, ap}
-use mathlib.Core.Bool.{Bool, true, false, cond}
 use Prim.Native.Nat.{ℕ, zero, suc, _+_, _<_}
 use native.Mathlib.Omega.{arith}
 use borrow.Author.Tests.{eq-eqb, ne-eqb}
 use Rattle.words.specs.Refusal.{zeroRange, outOfBudget}
-use Rattle.words.specs.Draw.{Words, quotient, Found, at, nowhere, firstGood, Outcome, refused, gives, settledBy, boundedBy}
+use Rattle.words.specs.Draw.{Words, quotient, at, firstGood, Outcome, refused, gives, settledBy, boundedBy}
 use Rattle.words.specs.GoodWord.{FirstGood, NoneGood, Looked, found, none, look, first-found, none-found}
 
 -- Which outcomes a draw below r with this budget may have (the order, demand 3; document 01, refusals 1 and 8).

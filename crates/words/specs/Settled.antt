@@ -1,11 +1,11 @@
 -- How many draws of a list were settled, and the words they used, as the budget grows: the number settled never falls, and where the budget
 -- ends first it is below the number of bounds; the words used are within the budget.
-use mathlib.Core.Path.{_≡_, refl, sym, _∙_, ap}
-use mathlib.Core.List.{List, [], _∷_}
-use Prim.Native.Nat.{ℕ, suc, _+_, _-_, _≤_, _<_}
+use mathlib.Core.Path.{_≡_, refl}
+use mathlib.Core.List.{List, _∷_}
+use Prim.Native.Nat.{ℕ, _+_, _-_, _≤_, _<_}
 use native.Mathlib.Omega.{arith}
 use lib.ListN.{length}
-use Rattle.words.specs.Draw.{Words, after, quotient, firstGood, Drawn, all, short, more, draws}
+use Rattle.words.specs.Draw.{Words, after, Drawn, all, short, more, draws}
 use Rattle.words.specs.GoodWord.{FirstGood, first-found}
 use Rattle.words.specs.OneOutcomeOfDraws.{Drawing, done, settled, later-short, now-short, drawing-is, draws-at}
 use Rattle.words.specs.LargerBudget.{first-larger}

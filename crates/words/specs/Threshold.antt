@@ -1,14 +1,14 @@
 -- The least remainder of a good word, 2^32 mod r, as the code works it out; and the word whose remainder is at least r, which is good
 -- without it.
-use mathlib.Core.Path.{_≡_, refl, sym, _∙_, ap}
-use mathlib.Core.Bool.{Bool, true, false, cond}
-use Prim.Native.Nat.{ℕ, _+_, _-_, _*_, _%_, _^_, _<_, _≤_}
+use mathlib.Core.Path.{_≡_, _∙_}
+use mathlib.Core.Bool.{true, false, cond}
+use Prim.Native.Nat.{ℕ, _-_, _*_, _%_, _^_, _<_, _≤_}
 use native.Mathlib.Omega.{arith}
 use native.Mathlib.Nat.{mod-lt, mod-eq-sub-mod}
 use lib.Dec.{leb, eqb}
-use borrow.Author.Tests.{eq-eqb, ne-eqb, le-leb, lt-leb}
+use borrow.Author.Tests.{eq-eqb, ne-eqb}
 use Rattle.words.specs.Draw.{good}
-use Rattle.words.specs.GoodWord.{fails-for-zero}
+use Rattle.words.specs.GoodWord.{passes-good, fails-bad, fails-for-zero}
 
 -- 2^32 mod r; and 0 where r is 0, for which no word is good.
 abbrev pub threshold : ℕ → ℕ
@@ -31,13 +31,13 @@ threshold-below r h = rw (threshold-positive r h) (mod-lt (2 ^ 32) h)
 
 -- No word is good for 0.
 pub none-for-zero : (r w : ℕ) → r ≡ 0 → good r w ≡ false
-none-for-zero r w z = rw z (lt-leb (2 ^ 32 % 0) ((w * 0) % 2 ^ 32) (fails-for-zero w))
+none-for-zero r w z = rw z (fails-bad 0 w (fails-for-zero w))
 
 -- How the code tells whether a word w is good, by its product p with r.
 module _ (r w p : ℕ) (product : p ≡ w * r) (pos : 0 < r) where
   -- A remainder of at least r is enough, since 2^32 mod r is below r: it need not be worked out.
   pub good-from-r : r ≤ p % 2 ^ 32 → good r w ≡ true
-  good-from-r h = rw (← product) (le-leb (2 ^ 32 % r) (p % 2 ^ 32) (omega (arith, mod-lt (2 ^ 32) pos)))
+  good-from-r h = passes-good r w (rw (← product) (omega (arith, mod-lt (2 ^ 32) pos)))
 
   -- Any other is compared with it.
   pub good-by-threshold : good r w ≡ leb (threshold r) (p % 2 ^ 32)

@@ -1,11 +1,11 @@
 -- Drawing depends on the words within the budget alone: sequences that agree there have the same outcome, of one draw and of draws below a
 -- list. So a recorded list of words stands for whatever gave them.
-use mathlib.Core.Path.{_≡_, refl, sym, _∙_, ap}
-use mathlib.Core.List.{List, [], _∷_}
-use Prim.Native.Nat.{ℕ, _+_, _-_, _<_}
+use mathlib.Core.Path.{_≡_, sym}
+use mathlib.Core.List.{List}
+use Prim.Native.Nat.{ℕ, _+_, _<_}
 use native.Mathlib.Omega.{arith}
-use Rattle.words.specs.Draw.{Words, after, quotient, Outcome, boundedBy, Drawn, draws}
-use Rattle.words.specs.GoodWord.{Passes, Fails, FirstGood, NoneGood}
+use Rattle.words.specs.Draw.{Words, Outcome, boundedBy, Drawn, draws}
+use Rattle.words.specs.GoodWord.{FirstGood, NoneGood}
 use Rattle.words.specs.OneOutcome.{Bounded, zero-range, answers, out-of-budget, bounded-is, bounded-only}
 use Rattle.words.specs.OneOutcomeOfDraws.{Drawing, done, settled, later-short, now-short, drawing-is, drawing-only}
 

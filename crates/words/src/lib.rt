@@ -30,9 +30,11 @@ pub fn is_good(w: u32, r: u32) -> bool
     if r == 0 {
         return false;
     }
+    let bound = r as u64;
     let low = product(w, r) % 4294967296;
-    if low < r as u64 {
-        return low >= threshold(r) as u64;
+    if low < bound {
+        let least = threshold(r) as u64;
+        return low >= least;
     }
     true
 }

@@ -1,7 +1,8 @@
 -- `words::is_good` meets its contract: each way out cites one law of the threshold.
-use mathlib.Core.Path.{_≡_, sym}
-use Prim.Native.Nat.{_<_}
+use mathlib.Core.Path.{sym, _∙_, ap}
+use Prim.Native.Nat.{ℕ, _%_, _^_}
 use native.Mathlib.Omega.{arith}
+use lib.Dec.{leb}
 use borrow.Author.Needs.{needs}
 use Rattle.words.specs.Threshold.{none-for-zero, good-from-r, good-by-threshold}
 use Rattle.words.proofs.is_good.Statement.{statement}
@@ -16,14 +17,15 @@ product-requires c κs = search needs
 threshold-requires : tie.Need-threshold-requires
 threshold-requires c κs = search needs
 
-cast-result : tie.Need-cast-result
-cast-result c = search needs
+cast-least : tie.Need-cast-least
+cast-least c = search needs
 
 returns-2 : tie.Need-returns-2
 returns-2 c =
     let p = c .before .before in
     let a = p .before .before .args in
-    rw (c .threshold .ensures) (sym (good-by-threshold (a .r) (a .w) (p .product .result) (p .product .ensures) (omega arith)))
+    ap (λ (least : ℕ). leb least (p .product .result % 2 ^ 32)) (c .threshold .ensures)
+    ∙ sym (good-by-threshold (a .r) (a .w) (p .product .result) (p .product .ensures) (omega arith))
 
 returns-3 : tie.Need-returns-3
 returns-3 c =
@@ -34,4 +36,4 @@ returns-3 c =
 pub is-good-spec : {M : Type 1} → statement M
 is-good-spec =
     tie.close
-    (tie.spec returns product-requires threshold-requires cast-result returns-2 returns-3)
+    (tie.spec returns product-requires threshold-requires cast-least returns-2 returns-3)

@@ -1,7 +1,0 @@
-pub mod Key
-pub mod Kinds
-pub mod Met
-pub mod Reads
-pub mod Statement
-pub mod Symbol
-pub use Rattle.words.proofs.is_good.{signature, ended, ensures-1, clauses, spec}

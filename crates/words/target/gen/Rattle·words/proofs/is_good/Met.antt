@@ -1,1 +1,0 @@
-pub use Rattle.words.proofs.is_good.Met.{met}

@@ -1,1 +1,0 @@
-pub use Rattle.words.proofs.product.Met.{met}

@@ -1,1 +1,0 @@
-pub use Rattle.words.specs.Product.{product-fits}

@@ -1,2 +1,0 @@
-pub use Rattle.words.proofs.is_good.Code.{routine}
-pub use Rattle.words.proofs.is_good.Key.{name}

@@ -1,7 +1,0 @@
--- the `use` lines below are this print's own: the module states none of them
-use Rattle.words.proofs.threshold.Proof
-use Rattle.words.proofs.threshold.Statement
-
-module _ {M : Type 1} where
-  pub met : Statement.statement M
-  met = Proof.threshold-spec

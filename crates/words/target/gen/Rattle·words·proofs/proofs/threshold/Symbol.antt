@@ -1,2 +1,0 @@
-pub use Rattle.words.proofs.threshold.Code.{routine}
-pub use Rattle.words.proofs.threshold.Key.{name}
