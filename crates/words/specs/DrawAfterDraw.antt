@@ -65,7 +65,7 @@ draw-after-draw s (r ∷ rs) qs budget =
 
 -- The same read at one bound: the draws below rs were all settled, with n words, and the next is below r.
 module _ (s : Words) (rs : List ℕ) (r budget : ℕ) {vs : List ℕ} {n : ℕ} (before : draws s rs budget ≡ all vs n) where
-  next-draw : (qs : List ℕ) → draws s (rs ++ (r ∷ qs)) budget ≡ prepend vs n (draws (after n s) (r ∷ qs) (budget - n))
+  pub next-draw : (qs : List ℕ) → draws s (rs ++ (r ∷ qs)) budget ≡ prepend vs n (draws (after n s) (r ∷ qs) (budget - n))
   next-draw qs = draw-after-draw s rs (r ∷ qs) budget ∙ rw before
 
   pub next-settled : {k : ℕ} → FirstGood (after n s) r (budget - n) k
