@@ -37,18 +37,18 @@ pub record Searching (s : Words) (r budget used : ℕ) : Type 0 where
   pub within-budget : used ≤ budget
   pub none-yet : NoneGood s r used
 
-pub searching-start : (s : Words) (r budget : ℕ) → Searching s r budget 0
-searching-start s r budget = record { within-budget = omega arith; none-yet = λ j h. absurd (omega arith) }
+pub searching-start : {s : Words} {r budget : ℕ} → Searching s r budget 0
+searching-start = record { within-budget = omega arith; none-yet = λ j h. absurd (omega arith) }
 
 -- A draw below 0 looks at no word.
-pub told-zero : (s : Words) (r budget : ℕ) → r ≡ 0 → Told s r budget false 0 0
-told-zero s r budget z =
+pub told-zero : {s : Words} {r budget : ℕ} → r ≡ 0 → Told s r budget false 0 0
+told-zero {s} {r} {budget} z =
     let none : NoneGood s r budget = λ j h. rw z (fails-for-zero (s j)) in
     let e = none-found s r budget none in
     let t : cond (eqb r 0) 0 budget ≡ 0 = rw (eq-eqb r 0 z) in
     record { found = rw e; value = rw e; taken = rw (e, t) }
 
-module _ (s : Words) (r budget used : ℕ) (h : Searching s r budget used) where
+module _ {s : Words} {r budget used : ℕ} (h : Searching s r budget used) where
   -- w is the next word, and b tells whether it is good: it settles the draw,
   pub searching-good : {w v : ℕ} {b : Bool} → used < budget → w ≡ s used → b ≡ good r w → b ≡ true → v ≡ quotient r w
       → Told s r budget true v (used + 1)
@@ -80,7 +80,7 @@ module _ (s : Words) (r budget used : ℕ) (h : Searching s r budget used) where
       record { found = rw e; value = rw e; taken = rw e t }
 
 -- What a caller learns of what was told.
-module _ (s : Words) (r budget : ℕ) {b : Bool} {v n : ℕ} (t : Told s r budget b v n) where
+module _ {s : Words} {r budget : ℕ} {b : Bool} {v n : ℕ} (t : Told s r budget b v n) where
   pub told-first : b ≡ true → (k : ℕ) × FirstGood s r budget k × (v ≡ quotient r (s k)) × (n ≡ k + 1)
   told-first q = go (look s r budget)
     where

@@ -18,15 +18,15 @@ pub record Running (s : Words) (bounds : List ℕ) (budget used : ℕ) (vs rest 
   pub split : bounds ≡ passed ++ rest
   pub drawn : draws s passed budget ≡ all vs used
 
-pub running-start : (s : Words) (bounds : List ℕ) (budget : ℕ) → Running s bounds budget 0 [] bounds
-running-start s bounds budget = record { passed = []; split = refl; drawn = draws-done s budget }
+pub running-start : {s : Words} {bounds : List ℕ} {budget : ℕ} → Running s bounds budget 0 [] bounds
+running-start {s} {bounds} {budget} = record { passed = []; split = refl; drawn = draws-done s budget }
 
-module _ (s : Words) (bounds : List ℕ) (budget used : ℕ) (vs : List ℕ) where
+module _ {s : Words} {bounds : List ℕ} {budget used : ℕ} {vs : List ℕ} where
   -- the next draw is settled,
-  pub running-on : (r : ℕ) (rs : List ℕ) {b : Bool} {v n : ℕ} → Running s bounds budget used vs (r ∷ rs)
+  pub running-on : {r : ℕ} {rs : List ℕ} {b : Bool} {v n : ℕ} → Running s bounds budget used vs (r ∷ rs)
       → Told (after used s) r (budget - used) b v n → b ≡ true → Running s bounds budget (used + n) (vs ++ (v ∷ [])) rs
-  running-on r rs h t q =
-      let (k, f, e, m) = told-first (after used s) r (budget - used) t q in
+  running-on {r} {rs} h t q =
+      let (k, f, e, m) = told-first t q in
       record {
         passed = h .passed ++ (r ∷ []);
         split = h .split ∙ sym (append-assoc (h .passed) (r ∷ []) rs);
@@ -34,10 +34,10 @@ module _ (s : Words) (bounds : List ℕ) (budget used : ℕ) (vs : List ℕ) whe
       }
 
   -- or it is not, and the call is short,
-  pub running-short : (r : ℕ) (rs : List ℕ) {b : Bool} {v n : ℕ} → Running s bounds budget used vs (r ∷ rs)
+  pub running-short : {r : ℕ} {rs : List ℕ} {b : Bool} {v n : ℕ} → Running s bounds budget used vs (r ∷ rs)
       → Told (after used s) r (budget - used) b v n → b ≡ false → draws s bounds budget ≡ short (length vs)
-  running-short r rs h t q =
-      rw (h .split) (next-short s (h .passed) r budget (h .drawn) rs (told-none (after used s) r (budget - used) t q))
+  running-short {r} {rs} h t q =
+      rw (h .split) (next-short s (h .passed) r budget (h .drawn) rs (told-none t q))
 
   -- or no bound is left.
   pub running-done : Running s bounds budget used vs [] → draws s bounds budget ≡ all vs used
