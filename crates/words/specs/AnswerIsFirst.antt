@@ -1,6 +1,6 @@
 -- "The answer is the quotient for the first such word, and the generator stands just past it" (the order, demand 3): the words used are
 -- the place, counted from 1, of the first good word.
-use mathlib.Core.Path.{_≡_, refl, sym}
+use mathlib.Core.Path.{_≡_, refl}
 use Prim.Native.Nat.{ℕ, _+_, _*_, _/_, _^_}
 use native.Mathlib.Omega.{arith}
 use Rattle.words.specs.Refusal.{answered}
@@ -21,4 +21,4 @@ answer-is-first s r budget = go (bounded-is s r budget) refl
 
 -- and the first good word gives its answer.
 pub first-is-answer : (s : Words) (r budget k : ℕ) → FirstGood s r budget k → boundedBy s r budget ≡ gives ((s k * r) / 2 ^ 32) (k + 1)
-first-is-answer s r budget k f = sym (bounded-only s r budget (answers k (passes-positive r (s k) (f .passes)) f))
+first-is-answer s r budget k f = bounded-only s r budget (answers k (passes-positive r (s k) (f .passes)) f)

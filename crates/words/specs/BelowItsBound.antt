@@ -11,7 +11,7 @@ use Rattle.words.specs.Draw.{Words, quotient, boundedBy, all, draws}
 use Rattle.words.specs.GoodWord.{FirstGood, passes-positive}
 use Rattle.words.specs.AnswerIsFirst.{answer-is-first}
 use Rattle.words.specs.OneOutcomeOfDraws.{Drawing, done, settled, drawing-is}
-use Rattle.words.specs.Settled.{all-settled}
+use Rattle.words.specs.SettledNeverFalls.{as-many-values}
 
 -- Every word has 32 bits.
 abbrev pub WordSized : Words → Type 0
@@ -42,4 +42,4 @@ drawing-below sized (settled {k = k} f rest) (suc j) h = drawing-below (λ i. si
 
 pub draws-below : (s : Words) (rs : List ℕ) (budget : ℕ) {vs : List ℕ} {n : ℕ} → WordSized s → draws s rs budget ≡ all vs n → EachBelow vs rs
 draws-below s rs budget sized e =
-    record { as-many = all-settled s rs budget e .0; below = drawing-below sized (rw e at (drawing-is s rs budget)) }
+    record { as-many = as-many-values s rs budget e; below = drawing-below sized (rw e at (drawing-is s rs budget)) }

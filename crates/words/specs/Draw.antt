@@ -41,8 +41,8 @@ first test (suc n) i = elim (test i) [ true ↦ at i | false ↦ first test n (i
 unfoldable pub firstGood : Words → ℕ → ℕ → Found
 firstGood s r budget = first (λ k. good r (s k)) budget 0
 
--- What a call tells: its refusal's number (0 where it is answered), its value, and the words used. The generator afterwards is always the
--- one before after `used` words, so an outcome names no generator.
+-- What a call tells: its refusal's number (0 where it is answered), its value, and the words used. The next generator is always the old one
+-- after `used` words, so an outcome names no generator.
 pub record Outcome : Type 0 where
   pub refusal : ℕ
   pub value : ℕ

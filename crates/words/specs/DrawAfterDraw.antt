@@ -6,8 +6,8 @@ use Prim.Native.Nat.{ℕ, _+_, _-_}
 use native.Mathlib.Omega.{arith}
 use lib.ListN.{length}
 use Rattle.words.specs.Draw.{Words, after, quotient, Drawn, all, short, more, draws}
-use Rattle.words.specs.GoodWord.{FirstGood, NoneGood, Looked, found, none, look, first-found, none-found}
-use Rattle.words.specs.OneOutcomeOfDraws.{draws-done, draws-at, draws-nowhere}
+use Rattle.words.specs.GoodWord.{FirstGood, NoneGood, Looked, some-good, none-good, look}
+use Rattle.words.specs.OneOutcomeOfDraws.{draws-done, draws-settled, draws-short}
 
 -- The values vs, drawn with n words, in front of further draws.
 abbrev pub prepend : List ℕ → ℕ → Drawn → Drawn
@@ -57,11 +57,11 @@ draw-after-draw s (r ∷ rs) qs budget =
         rw (b, after-after (k + 1) n s)
 
     go : Looked s r budget → Rest → draws s (r ∷ (rs ++ qs)) budget ≡ andThen (draws s (r ∷ rs) budget) (λ n. draws (after n s) qs (budget - n))
-    go (found k e f) rest =
-        rw (draws-at s r (rs ++ qs) budget e, draws-at s r rs budget e, rest k)
+    go (some-good k f) rest =
+        rw (draws-settled s r (rs ++ qs) budget f, draws-settled s r rs budget f, rest k)
         (more-then (quotient r (s k)) (k + 1) (draws (after (k + 1) s) rs (budget - (k + 1)))
         (λ n. draws (after n (after (k + 1) s)) qs (budget - (k + 1) - n)) (λ n. draws (after n s) qs (budget - n)) (onward k))
-    go (none e f) rest = rw (draws-nowhere s r (rs ++ qs) budget e, draws-nowhere s r rs budget e)
+    go (none-good f) rest = rw (draws-short s r (rs ++ qs) budget f, draws-short s r rs budget f)
 
 -- The same read at one bound: the draws below rs were all settled, with n words, and the next is below r.
 module _ (s : Words) (rs : List ℕ) (r budget : ℕ) {vs : List ℕ} {n : ℕ} (before : draws s rs budget ≡ all vs n) where
@@ -72,9 +72,9 @@ module _ (s : Words) (rs : List ℕ) (r budget : ℕ) {vs : List ℕ} {n : ℕ} 
       → draws s (rs ++ (r ∷ [])) budget ≡ all (vs ++ (quotient r (s (n + k)) ∷ [])) (n + (k + 1))
   next-settled {k} f =
       let z : k + 1 + 0 ≡ k + 1 = omega arith in
-      rw (next-draw [], draws-at (after n s) r [] (budget - n) (first-found (after n s) r (budget - n) f), draws-done, z)
+      rw (next-draw [], draws-settled (after n s) r [] (budget - n) f, draws-done, z)
 
   pub next-short : (qs : List ℕ) → NoneGood (after n s) r (budget - n) → draws s (rs ++ (r ∷ qs)) budget ≡ short (length vs)
   next-short qs f =
       let z : length vs + 0 ≡ length vs = omega arith in
-      rw (next-draw qs, draws-nowhere (after n s) r qs (budget - n) (none-found (after n s) r (budget - n) f), z)
+      rw (next-draw qs, draws-short (after n s) r qs (budget - n) f, z)

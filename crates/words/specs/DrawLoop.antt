@@ -8,7 +8,7 @@ use lib.Dec.{leb, eqb}
 use borrow.Author.Tests.{eq-eqb, ne-eqb, leb-true, leb-false}
 use Rattle.words.specs.Refusal.{outOfBudget}
 use Rattle.words.specs.Draw.{Words, good, quotient, Found, at, nowhere, firstGood, refused, gives, boundedBy}
-use Rattle.words.specs.GoodWord.{Fails, good-passes, bad-fails, fails-for-zero, FirstGood, NoneGood, Looked, found, none, look, first-found, none-found}
+use Rattle.words.specs.GoodWord.{Fails, good-passes, bad-fails, fails-for-zero, FirstGood, NoneGood, Looked, some-good, none-good, look, first-found, none-found}
 use Rattle.words.specs.OneOutcome.{out-of-budget, bounded-only}
 use Rattle.words.specs.AnswerIsFirst.{first-is-answer}
 use Rattle.words.specs.BelowItsBound.{WordSized, first-below}
@@ -85,15 +85,17 @@ module _ {s : Words} {r budget : ℕ} {b : Bool} {v n : ℕ} (t : Told s r budge
   told-first q = go (look s r budget)
     where
       go : Looked s r budget → (k : ℕ) × FirstGood s r budget k × (v ≡ quotient r (s k)) × (n ≡ k + 1)
-      go (found k e f) = (k, f, t .value ∙ ap (valueOf s r) e, t .taken ∙ ap (takenOf r budget) e)
-      go (none e f) = absurd (true≢false (sym q ∙ t .found ∙ ap foundOf e))
+      go (some-good k f) =
+          let e = first-found s r budget f in
+          (k, f, t .value ∙ ap (valueOf s r) e, t .taken ∙ ap (takenOf r budget) e)
+      go (none-good f) = absurd (true≢false (sym q ∙ t .found ∙ ap foundOf (none-found s r budget f)))
 
   pub told-none : b ≡ false → NoneGood s r budget
   told-none q = go (look s r budget)
     where
       go : Looked s r budget → NoneGood s r budget
-      go (found k e f) = absurd (true≢false (sym (t .found ∙ ap foundOf e) ∙ q))
-      go (none e f) = f
+      go (some-good k f) = absurd (true≢false (sym (t .found ∙ ap foundOf (first-found s r budget f)) ∙ q))
+      go (none-good f) = f
 
   -- a draw takes no more words than its budget,
   pub told-within : n ≤ budget
@@ -104,8 +106,8 @@ module _ {s : Words} {r budget : ℕ} {b : Bool} {v n : ℕ} (t : Told s r budge
       at-most false = omega arith
 
       go : Looked s r budget → n ≤ budget
-      go (found k e f) = let h = f .among in omega (arith, t .taken ∙ ap (takenOf r budget) e)
-      go (none e f) = omega (arith, t .taken ∙ ap (takenOf r budget) e, at-most (eqb r 0))
+      go (some-good k f) = omega (arith, f .among, t .taken ∙ ap (takenOf r budget) (first-found s r budget f))
+      go (none-good f) = omega (arith, t .taken ∙ ap (takenOf r budget) (none-found s r budget f), at-most (eqb r 0))
 
   -- one that was settled is below r, where the words have 32 bits,
   pub told-below : WordSized s → b ≡ true → v < r
@@ -120,4 +122,4 @@ module _ {s : Words} {r budget : ℕ} {b : Bool} {v n : ℕ} (t : Told s r budge
       first-is-answer s r budget k f ∙ ap₂ gives (sym e) (sym m)
 
   pub told-refuses : 0 < r → b ≡ false → boundedBy s r budget ≡ refused outOfBudget
-  told-refuses pos q = sym (bounded-only s r budget (out-of-budget pos (told-none q)))
+  told-refuses pos q = bounded-only s r budget (out-of-budget pos (told-none q))

@@ -9,7 +9,8 @@ use lib.ListN.{length, length-append}
 use Rattle.words.specs.Draw.{Words, after, all, short, draws}
 use Rattle.words.specs.OneOutcomeOfDraws.{draws-done}
 use Rattle.words.specs.DrawAfterDraw.{next-settled, next-short}
-use Rattle.words.specs.Settled.{all-settled}
+use Rattle.words.specs.UsedWithinBudget.{draws-within}
+use Rattle.words.specs.SettledNeverFalls.{as-many-values}
 use Rattle.words.specs.DrawLoop.{Told, told-first, told-none}
 
 -- The draws below the bounds `passed` are all settled: they gave the values vs and used so many words. The bounds `rest` are left.
@@ -45,7 +46,7 @@ module _ {s : Words} {bounds : List ℕ} {budget used : ℕ} {vs : List ℕ} whe
 
   -- The words used are within the budget, and as many draws are settled as bounds are passed.
   pub running-within : {rest : List ℕ} → Running s bounds budget used vs rest → used ≤ budget
-  running-within h = all-settled s (h .passed) budget (h .drawn) .1
+  running-within h = draws-within s (h .passed) budget (h .drawn)
 
   pub running-settled : {rest : List ℕ} → Running s bounds budget used vs rest → length vs + length rest ≡ length bounds
-  running-settled h = rw (h .split, length-append) (omega (arith, all-settled s (h .passed) budget (h .drawn) .0))
+  running-settled h = rw (h .split, length-append) (omega (arith, as-many-values s (h .passed) budget (h .drawn)))

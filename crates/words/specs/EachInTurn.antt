@@ -7,9 +7,9 @@ use native.Mathlib.Omega.{arith}
 use lib.ListN.{length, getD}
 use lib.Seq.{getD-append-add}
 use Rattle.words.specs.Draw.{Words, after, quotient, Drawn, all, short, more, draws}
-use Rattle.words.specs.GoodWord.{FirstGood, Looked, found, none, look}
-use Rattle.words.specs.Settled.{all-settled}
-use Rattle.words.specs.OneOutcomeOfDraws.{draws-at, draws-nowhere}
+use Rattle.words.specs.GoodWord.{FirstGood, Looked, some-good, none-good, look}
+use Rattle.words.specs.SettledNeverFalls.{as-many-values}
+use Rattle.words.specs.OneOutcomeOfDraws.{draws-settled, draws-short}
 use Rattle.words.specs.DrawAfterDraw.{prepend, draw-after-draw, next-draw}
 
 pub record InTurn (s : Words) (rs : List ℕ) (r budget : ℕ) (vs : List ℕ) : Type 0 where
@@ -30,7 +30,7 @@ each-in-turn s rs r qs budget {vs} {n} e = go (draws s rs budget) refl
     settled-here : (us : List ℕ) (m : ℕ) → draws s rs budget ≡ all us m → (k : ℕ) → FirstGood (after m s) r (budget - m) k → (d : Drawn)
         → prepend us m (more (quotient r (s (m + k))) (k + 1) d) ≡ all vs n → InTurn s rs r budget vs
     settled-here us m before k f (all ws x) p =
-        let l : length rs ≡ length us + 0 = omega (arith, all-settled s rs budget before .0) in
+        let l : length rs ≡ length us + 0 = omega (arith, as-many-values s rs budget before) in
         let q : vs ≡ us ++ (quotient r (s (m + k)) ∷ ws) = cc in
         record {
           earlier = us;
@@ -50,6 +50,6 @@ each-in-turn s rs r qs budget {vs} {n} e = go (draws s rs budget) refl
         here = sym (next-draw s rs r budget before qs) ∙ e
 
         look-here : Looked (after m s) r (budget - m) → InTurn s rs r budget vs
-        look-here (found k q f) =
-            settled-here us m before k f (draws (after (k + 1) (after m s)) qs (budget - m - (k + 1))) (rw (draws-at (after m s) r qs (budget - m) q) at here)
-        look-here (none q f) = absurd (not-short (rw (draws-nowhere (after m s) r qs (budget - m) q) at here))
+        look-here (some-good k f) =
+            settled-here us m before k f (draws (after (k + 1) (after m s)) qs (budget - m - (k + 1))) (rw (draws-settled (after m s) r qs (budget - m) f) at here)
+        look-here (none-good f) = absurd (not-short (rw (draws-short (after m s) r qs (budget - m) f) at here))

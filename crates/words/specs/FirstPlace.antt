@@ -24,18 +24,14 @@ pub data Searched (test : ℕ → Bool) (n i : ℕ) : Found → Type 0 where
   miss : NoneAt test n i → Searched test n i nowhere
 
 module _ (test : ℕ → Bool) where
-  -- The rules of a search: it ends where no place is left, stops at a place that passes, and goes on past one that does not.
-  pub first-ended : (n i : ℕ) → n ≡ 0 → first test n i ≡ nowhere
+  -- A search stops at a place that passes, and goes on past one that does not.
+  first-stops : (n i : ℕ) → test i ≡ true → first test (suc n) i ≡ at i
   unfolding first
-  first-ended n i e = rw e
+  first-stops n i p = rw (p, first)
 
-  pub first-hit : (n m i : ℕ) → n ≡ suc m → test i ≡ true → first test n i ≡ at i
+  first-goes-on : (n i : ℕ) → test i ≡ false → first test (suc n) i ≡ first test n (i + 1)
   unfolding first
-  first-hit n m i e p = rw (e, p, first)
-
-  pub first-miss : (n m i : ℕ) → n ≡ suc m → test i ≡ false → first test n i ≡ first test m (i + 1)
-  unfolding first
-  first-miss n m i e p = rw (e, p, first)
+  first-goes-on n i p = rw (p, first)
 
   -- what fails at i, and at each place from i + 1 up to e, fails at each from i up to e
   fails-from : (i e : ℕ) → test i ≡ false → ((j : ℕ) → i + 1 ≤ j → j < e → test j ≡ false) → (j : ℕ) → i ≤ j → j < e → test j ≡ false
@@ -65,8 +61,8 @@ module _ (test : ℕ → Bool) where
     where
       go : (b : Bool) → test i ≡ b → Searched test n (i + 1) (first test n (i + 1)) → Searched test (suc n) i (first test (suc n) i)
       go true p s =
-          rw (first-hit (suc n) n i refl p) (hit i (record { from = omega arith; before-end = omega arith; passes = p; missed = λ j a b. absurd (omega arith) }))
-      go false p s = rw (first-miss (suc n) n i refl p) (onward n i p s)
+          rw (first-stops n i p) (hit i (record { from = omega arith; before-end = omega arith; passes = p; missed = λ j a b. absurd (omega arith) }))
+      go false p s = rw (first-goes-on n i p) (onward n i p s)
 
   clash : (k : ℕ) → test k ≡ true → test k ≡ false → ⊥
   clash k p q = true≢false (sym p ∙ q)
@@ -87,5 +83,5 @@ module _ (test : ℕ → Bool) where
   same-end n i (miss f) (miss g) = refl
 
   -- and to no other
-  pub searched-only : (n i : ℕ) {f : Found} → Searched test n i f → f ≡ first test n i
-  searched-only n i s = same-end n i s (searched n i)
+  pub searched-only : (n i : ℕ) {f : Found} → Searched test n i f → first test n i ≡ f
+  searched-only n i s = same-end n i (searched n i) s

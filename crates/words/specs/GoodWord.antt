@@ -1,5 +1,5 @@
 -- The order's test of a word in plain numbers, the first good word among the next B, and that `firstGood` finds exactly that one.
-use mathlib.Core.Path.{_≡_, refl, sym}
+use mathlib.Core.Path.{_≡_}
 use mathlib.Core.Bool.{Bool, true, false}
 use Prim.Native.Nat.{ℕ, zero, suc, _*_, _%_, _^_, _≤_, _<_}
 use native.Mathlib.Omega.{arith}
@@ -48,43 +48,42 @@ pub record FirstGood (s : Words) (r budget k : ℕ) : Type 0 where
 abbrev pub NoneGood : Words → ℕ → ℕ → Type 0
 NoneGood s r budget = (j : ℕ) → j < budget → Fails r (s j)
 
--- What looking for it comes to, with what `firstGood` says of it.
+-- Among the next `budget` words there is a first good one, or none.
 pub data Looked (s : Words) (r budget : ℕ) : Type 0 where
-  found : (k : ℕ) → firstGood s r budget ≡ at k → FirstGood s r budget k → Looked s r budget
-  none : firstGood s r budget ≡ nowhere → NoneGood s r budget → Looked s r budget
+  some-good : (k : ℕ) → FirstGood s r budget k → Looked s r budget
+  none-good : NoneGood s r budget → Looked s r budget
 
 module _ (s : Words) (r budget : ℕ) where
   test : ℕ → Bool
   test k = good r (s k)
 
-  -- it is one of the two,
   pub look : Looked s r budget
-  unfolding test firstGood
-  look = go (firstGood s r budget) refl (searched test budget 0)
+  unfolding test
+  look = go (searched test budget 0)
     where
-      go : (f : Found) → firstGood s r budget ≡ f → Searched test budget 0 f → Looked s r budget
-      go _ e (hit k f) =
-          found k e
+      go : {f : Found} → Searched test budget 0 f → Looked s r budget
+      go (hit k f) =
+          some-good k
           (record {
             among = let u = f .before-end in omega arith;
             passes = good-passes r (s k) (f .passes);
             none-before = λ j h. bad-fails r (s j) (f .missed j (omega arith) h);
           })
-      go _ e (miss f) = none e (λ j h. bad-fails r (s j) (f j (omega arith) (omega arith)))
+      go (miss f) = none-good (λ j h. bad-fails r (s j) (f j (omega arith) (omega arith)))
 
-  -- and `firstGood` tells which
+  -- `firstGood` tells which.
   pub first-found : {k : ℕ} → FirstGood s r budget k → firstGood s r budget ≡ at k
   unfolding test firstGood
   first-found {k} f =
-      sym (searched-only test budget 0
+      searched-only test budget 0
       (hit k
       (record {
         from = omega arith;
         before-end = let u = f .among in omega arith;
         passes = passes-good r (s k) (f .passes);
         missed = λ j a h. fails-bad r (s j) (f .none-before j h);
-      })))
+      }))
 
   pub none-found : NoneGood s r budget → firstGood s r budget ≡ nowhere
   unfolding test firstGood
-  none-found f = sym (searched-only test budget 0 (miss (λ j a h. fails-bad r (s j) (f j (omega arith)))))
+  none-found f = searched-only test budget 0 (miss (λ j a h. fails-bad r (s j) (f j (omega arith))))

@@ -26,9 +26,6 @@ threshold-positive r h =
 pub threshold-of-negative : (r : ℕ) → 0 < r → r ≤ 2 ^ 32 → threshold r ≡ (2 ^ 32 - r) % r
 threshold-of-negative r h fits = threshold-positive r h ∙ mod-eq-sub-mod fits
 
-pub threshold-below : (r : ℕ) → 0 < r → threshold r < r
-threshold-below r h = rw (threshold-positive r h) (mod-lt (2 ^ 32) h)
-
 -- No word is good for 0.
 pub none-for-zero : (r w : ℕ) → r ≡ 0 → good r w ≡ false
 none-for-zero r w z = rw z (fails-bad 0 w (fails-for-zero w))

@@ -26,7 +26,7 @@ none-agrees : {s s′ : Words} (r : ℕ) {budget : ℕ} → Agree s s′ budget 
 none-agrees r a f = λ j h. rw (a j h) at (f j h)
 
 pub bounded-agrees : (s s′ : Words) (r budget : ℕ) → Agree s s′ budget → boundedBy s r budget ≡ boundedBy s′ r budget
-bounded-agrees s s′ r budget a = bounded-only s′ r budget (carried (bounded-is s r budget))
+bounded-agrees s s′ r budget a = sym (bounded-only s′ r budget (carried (bounded-is s r budget)))
   where
     carried : {o : Outcome} → Bounded s r budget o → Bounded s′ r budget o
     carried (zero-range z) = zero-range z

@@ -1,13 +1,13 @@
--- How many draws of a list were settled, and the words they used, as the budget grows: the number settled never falls, and where the budget
--- ends first it is below the number of bounds; the words used are within the budget.
+-- How many draws below the bounds of a list are settled: the number never falls as the budget grows, and where the budget ends first it is
+-- below the number of bounds.
 use mathlib.Core.Path.{_≡_, refl}
 use mathlib.Core.List.{List, _∷_}
 use Prim.Native.Nat.{ℕ, _+_, _-_, _≤_, _<_}
 use native.Mathlib.Omega.{arith}
 use lib.ListN.{length}
 use Rattle.words.specs.Draw.{Words, after, Drawn, all, short, more, draws}
-use Rattle.words.specs.GoodWord.{FirstGood, first-found}
-use Rattle.words.specs.OneOutcomeOfDraws.{Drawing, done, settled, later-short, now-short, drawing-is, draws-at}
+use Rattle.words.specs.GoodWord.{FirstGood}
+use Rattle.words.specs.OneOutcomeOfDraws.{Drawing, done, settled, later-short, now-short, drawing-is, draws-settled}
 use Rattle.words.specs.LargerBudget.{first-larger}
 
 -- The number of draws settled.
@@ -23,7 +23,7 @@ settled-more v n (short m) = refl
 settled-first : {s : Words} {r : ℕ} (rs : List ℕ) {b k m : ℕ} → FirstGood s r b k → m ≤ settledOf (draws (after (k + 1) s) rs (b - (k + 1)))
     → m + 1 ≤ settledOf (draws s (r ∷ rs) b)
 settled-first {s} {r} rs {b} f h =
-    rw (draws-at s r rs b (first-found s r b f), settled-more) (omega arith)
+    rw (draws-settled s r rs b f, settled-more) (omega arith)
 
 drawing-rises : {s : Words} {rs : List ℕ} {b b′ : ℕ} {d : Drawn} → b ≤ b′ → Drawing s rs b d → settledOf d ≤ settledOf (draws s rs b′)
 drawing-rises h done = omega arith
@@ -41,13 +41,10 @@ drawing-short (now-short f) = omega arith
 pub short-of-bounds : (s : Words) (rs : List ℕ) (b : ℕ) {m : ℕ} → draws s rs b ≡ short m → m < length rs
 short-of-bounds s rs b e = drawing-short (rw e at (drawing-is s rs b))
 
-drawing-all : {s : Words} {rs vs : List ℕ} {b n : ℕ} → Drawing s rs b (all vs n) → (length vs ≡ length rs) × (n ≤ b)
-drawing-all done = (refl, omega arith)
-drawing-all (settled f rest) =
-    let (l, u) = drawing-all rest in
-    let h = f .among in
-    (omega arith, omega arith)
+drawing-many : {s : Words} {rs vs : List ℕ} {b n : ℕ} → Drawing s rs b (all vs n) → length vs ≡ length rs
+drawing-many done = refl
+drawing-many (settled f rest) = omega (arith, drawing-many rest)
 
--- Where all are settled there are as many values as bounds, and the words used are within the budget.
-pub all-settled : (s : Words) (rs : List ℕ) (b : ℕ) {vs : List ℕ} {n : ℕ} → draws s rs b ≡ all vs n → (length vs ≡ length rs) × (n ≤ b)
-all-settled s rs b e = drawing-all (rw e at (drawing-is s rs b))
+-- Where all are settled there are as many values as bounds.
+pub as-many-values : (s : Words) (rs : List ℕ) (b : ℕ) {vs : List ℕ} {n : ℕ} → draws s rs b ≡ all vs n → length vs ≡ length rs
+as-many-values s rs b e = drawing-many (rw e at (drawing-is s rs b))
