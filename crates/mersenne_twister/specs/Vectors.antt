@@ -1,8 +1,7 @@
 -- The definitions give the words that mt19937ar.c gives, worked out here.
 -- Assumes nothing.
-use mathlib.Core.List.{List, [], _∷_}
-use mathlib.Core.Path.{_≡_, refl, _∙_}
-use Prim.Native.Nat.{ℕ, _+_, _<_}
+use mathlib.Core.List.{[], _∷_}
+use mathlib.Core.Path.{_≡_, refl}
 use native.Mathlib.Omega.{arith}
 use Rattle.wrapping.specs.Bytes.{little}
 use Rattle.mersenne_twister.specs.Sequence.{timesA, joined, follow, temper, temper1, temper2, temper3, temper4, seedStep, seedWord}
@@ -30,3 +29,9 @@ counted : folded
     ≡ 0x20000000
 unfolding little wordsXored
 counted = refl
+
+equal : folded
+    (7 ∷ 7 ∷ 7 ∷ 7 ∷ 7 ∷ 7 ∷ 7 ∷ 7 ∷ 7 ∷ 7 ∷ 7 ∷ 7 ∷ 7 ∷ 7 ∷ 7 ∷ 7 ∷ 7 ∷ 7 ∷ 7 ∷ 7 ∷ 7 ∷ 7 ∷ 7 ∷ 7 ∷ 7 ∷ 7 ∷ 7 ∷ 7 ∷ 7 ∷ 7 ∷ 7 ∷ 7 ∷ [])
+    ≡ 0
+unfolding little wordsXored
+equal = refl

@@ -7,7 +7,7 @@ ghost use mathlib.Core.Path.{_≡_};
 ghost use Rattle.mersenne_twister.specs.Table.{held, folded, storedPosition, seeded, twisted, drawn, drawn64};
 pub use table::Step;
 pub use table::Step64;
-pub use table::fold;
+pub use table::fold_seed;
 pub use table::from_seed_in;
 pub use table::next_u64_in;
 pub use table::rand_in;
@@ -49,7 +49,15 @@ impl MersenneTwister {
     pub fn from_seed(seed: [u8; 32]) -> MersenneTwister
         ensures { λ r. ⌜ r ≡ seeded (folded seed) ⌝ }
     {
-        MersenneTwister::from_u32_seed(fold(&seed))
+        MersenneTwister::from_u32_seed(fold_seed(&seed))
+    }
+
+    // Seeded anew from a number, whatever the generator was.
+    pub fn seed(mut self, seed: u32) -> MersenneTwister
+        ensures { λ r. ⌜ r ≡ seeded seed ⌝ }
+    {
+        self.mti = seed_in(&mut self.mt, seed);
+        self
     }
 
     // Set by hand. Any position is kept as it is given.

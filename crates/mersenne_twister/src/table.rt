@@ -46,7 +46,7 @@ pub fn seed_in(mt: &mut [u32; 624], seed: u32) -> u32
 }
 
 // The eight little-endian words of a seed of 32 bytes, XORed.
-pub fn fold(seed: &[u8]) -> u32
+pub fn fold_seed(seed: &[u8]) -> u32
     ensures { λ r. ⌜ r ≡ folded (now (seed .entry)) ⌝ }
 {
     let mut word: u32 = 0;
@@ -62,7 +62,7 @@ pub fn fold(seed: &[u8]) -> u32
 pub fn from_seed_in(mt: &mut [u32; 624], seed: &[u8; 32]) -> u32
     ensures { λ r. ⌜ held (now (mt .exit)) r ≡ seededIn (now (mt .entry)) (folded (now (seed .entry))) ⌝ }
 {
-    seed_in(mt, fold(seed))
+    seed_in(mt, fold_seed(seed))
 }
 
 // Entry i is renewed from itself and the entries j and k.

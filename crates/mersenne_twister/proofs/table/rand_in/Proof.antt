@@ -6,7 +6,7 @@ use native.Mathlib.Omega.{arith}
 use denote.Ref.{now}
 use borrow.Author.Needs.{needs}
 use Rattle.mersenne_twister.specs.declared.MersenneTwister.{MersenneTwister}
-use Rattle.mersenne_twister.specs.Table.{drawnAt, drawnIn}
+use Rattle.mersenne_twister.specs.Table.{renewed, drawnAt, drawnIn}
 use Rattle.mersenne_twister.specs.DrawLaws.{in-low, in-high}
 use Rattle.mersenne_twister.proofs.table.rand_in.Statement.{statement}
 use Rattle.mersenne_twister.proofs.table.rand_in.Tie as tie
@@ -14,10 +14,13 @@ use Rattle.mersenne_twister.proofs.table.rand_in.Tie as tie
 at-join : (c : tie.Joined1) → (c .if1 .at < 624) × (drawnIn (now (c .before .args .mt)) (c .before .args .mti) ≡ drawnAt (c .if1 .mt) (c .if1 .at))
 at-join c =
     let t = now (c .before .args .mt) in
+    let p = c .before .args .mti in
     ⊎-elim
     (λ w. let zero : c .if1 .at ≡ 0 = w .4 ∙ ap (λ (g : MersenneTwister). g .mti) (w .2 .ensures) in
-    (omega arith, in-high t _ (w .0 .taken) ∙ sym (ap₂ drawnAt (w .3 ∙ ap (λ (g : MersenneTwister). g .mt) (w .2 .ensures)) zero)))
-    (λ w. (omega (arith, w .0 .left, w .2), in-low t _ (w .0 .left) ∙ sym (ap₂ drawnAt (w .1) (w .2))))
+    let table : c .if1 .mt ≡ renewed 624 t = w .3 ∙ ap (λ (g : MersenneTwister). g .mt) (w .2 .ensures) in
+    (omega arith, in-high t p (omega (arith, w .0 .taken)) ∙ sym (ap₂ drawnAt table zero)))
+    (λ w. let low : p < 624 = omega (arith, w .0 .left) in
+    (omega (arith, w .2), in-low t p low ∙ sym (ap₂ drawnAt (w .1) (w .2))))
     (c .if1 .came)
 
 twist-in-requires : tie.Need-twist-in-requires

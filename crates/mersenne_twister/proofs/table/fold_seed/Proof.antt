@@ -1,12 +1,12 @@
--- `fold` meets its contract. The invariant: the first k words are XORed. Assumes nothing.
+-- `fold_seed` meets its contract. The invariant: the first k words are XORed. Assumes nothing.
 use mathlib.Core.Path.{_≡_, _∙_}
 use Prim.Native.Nat.{_-_, _≤_}
 use native.Mathlib.Numerals.{add-one}
 use native.Mathlib.Omega.{arith}
 use borrow.Author.Needs.{needs}
 use Rattle.mersenne_twister.specs.Table.{wordsXored}
-use Rattle.mersenne_twister.proofs.table.fold.Statement.{statement}
-use Rattle.mersenne_twister.proofs.table.fold.Tie as tie
+use Rattle.mersenne_twister.proofs.table.fold_seed.Statement.{statement}
+use Rattle.mersenne_twister.proofs.table.fold_seed.Tie as tie
 
 abbrev Inv-loop : tie.InvT-loop
 Inv-loop seed word₀ k₀ word k = (k ≤ 8) × (word ≡ wordsXored k seed)
@@ -39,8 +39,8 @@ returns c =
     let e : c .before .loop .k ≡ 8 = omega arith in
     c .before .loop .inv .1 ∙ rw e
 
-pub fold-spec : {M : Type 1} → statement M
-fold-spec =
+pub fold-seed-spec : {M : Type 1} → statement M
+fold-seed-spec =
     tie.close
     (tie.spec
     Inv-loop
