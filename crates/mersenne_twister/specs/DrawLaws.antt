@@ -95,12 +95,12 @@ pub word64-is : (g : MersenneTwister) → drawn64 g .word ≡ wordOf g 0 * 2 ^ 3
 unfolding drawn64 wordOf after
 word64-is g = refl
 
--- and two draws, one after the other, make it
+pub next64-is : (g : MersenneTwister) → drawn64 g .next ≡ after 2 g
+unfolding drawn64 after
+next64-is g = refl
+
+-- two draws, one after the other, make it
 pub drawn64-is : (g : MersenneTwister) (first second : Drawn) (w : ℕ) → first ≡ drawn g → second ≡ drawn (first .next)
     → w ≡ first .word * 2 ^ 32 + second .word → record { word = w; next = second .next } ≡ drawn64 g
 unfolding drawn64
 drawn64-is g first second w p q e = rw (e, q, p)
-
-pub next64-is : (g : MersenneTwister) → drawn64 g .next ≡ after 2 g
-unfolding drawn64 after
-next64-is g = refl

@@ -7,7 +7,7 @@ use native.Mathlib.Decide.{decLe}
 use native.Mathlib.Nat.{zero-add, add-comm, add-suc, lt-of-not-le, le-of-lt, le-refl, min-eq-left, min-eq-right}
 use native.Mathlib.Numerals.{add-one, one-add, add-one-le}
 use native.Mathlib.Omega.{arith}
-use lib.ListN.{length}
+use lib.ListN.{length, getD}
 use Rattle.mersenne_twister.specs.declared.MersenneTwister.{MersenneTwister}
 use Rattle.mersenne_twister.specs.declared.Drawn.{Drawn}
 use Rattle.mersenne_twister.specs.Sequence.{follow, Follows, StartsWith, sequence, terms, temper, seedWord}
@@ -65,22 +65,23 @@ pub words : (t : List ℕ) (p : ℕ) (x : ℕ → ℕ) → length t ≡ 624 → 
 unfolding wordOf
 words t p x n s f k = rw (start-terms t x n s) (stands-word (stood f p k))
 
+seed-at : (s j : ℕ) → j < 624 → getD (seedTable s) j 0 ≡ seedWord s j
+unfolding seedTable
+seed-at s j h = terms-at (seedWord s) 0 624 j h ∙ ap (seedWord s) (zero-add j)
+
 -- word k of a seeded generator is the tempering of x_{624+k}, where x_0 .. x_623 are the words of the seed
 pub seeded-words : (s : ℕ) (x : ℕ → ℕ) → ((k : ℕ) → k < 624 → x k ≡ seedWord s k) → Follows x → (k : ℕ)
     → wordOf (seeded s) k ≡ temper (x (624 + k))
-unfolding seedTable
 seeded-words s x first f k =
-    words (seedTable s) 624 x (length-seed-table s)
-    (record { word = λ j h. first j h ∙ sym (terms-at (seedWord s) 0 624 j h ∙ ap (seedWord s) (zero-add j)) }) f k
+    words (seedTable s) 624 x (length-seed-table s) (record { word = λ j h. first j h ∙ sym (seed-at s j h) }) f k
 
 -- the first 227 of them need no term but those
 pub early-words : (s k : ℕ) → k < 227 → wordOf (seeded s) k ≡ temper (follow (seedWord s k) (seedWord s (k + 1)) (seedWord s (k + 397)))
-unfolding seedTable
 early-words s k h =
     let n = length-seed-table s in
     let x = sequence (seedTable s) in
     let first : (j : ℕ) → j < 624 → x j ≡ seedWord s j
-    = λ j b. sequence-first (seedTable s) j n b ∙ terms-at (seedWord s) 0 624 j b ∙ ap (seedWord s) (zero-add j) in
+    = λ j b. sequence-first (seedTable s) j n b ∙ seed-at s j b in
     seeded-words s x first (follows (seedTable s) n) k
     ∙ rw (add-comm 624 k, follows (seedTable s) n .term k, first k (omega arith), first (k + 1) (omega arith), first (k + 397) (omega arith))
 
@@ -93,11 +94,14 @@ drawn-stored t p =
       | no h ↦ rw (min-eq-left (le-of-lt (lt-of-not-le h)))
     ]
 
+from-next : (g : MersenneTwister) (k : ℕ) → after (suc k) g ≡ after k (drawn g .next)
+unfolding after
+from-next g k = ap (λ (n : ℕ). after n g) (sym (one-add k)) ∙ after-add 1 k g
+
 pub stored-words : (t : List ℕ) (p k : ℕ) → wordOf (held t (storedPosition p)) k ≡ wordOf (held t p) k
 unfolding wordOf after
 stored-words t p zero = ap (λ (d : Drawn). d .word) (drawn-stored t p)
 stored-words t p (suc k) =
-    ap (λ (h : MersenneTwister). drawn h .word) (from-next (held t (storedPosition p)) k ∙ ap (λ (d : Drawn). after k (d .next)) (drawn-stored t p) ∙ sym (from-next (held t p) k))
-  where
-    from-next : (g : MersenneTwister) (k : ℕ) → after (suc k) g ≡ after k (drawn g .next)
-    from-next g k = ap (λ (n : ℕ). after n g) (sym (one-add k)) ∙ after-add 1 k g
+    let same : after k (drawn (held t (storedPosition p)) .next) ≡ after k (drawn (held t p) .next)
+    = ap (λ (d : Drawn). after k (d .next)) (drawn-stored t p) in
+    ap (λ (h : MersenneTwister). drawn h .word) (from-next (held t (storedPosition p)) k ∙ same ∙ sym (from-next (held t p) k))

@@ -47,8 +47,12 @@ folded b = wordsXored 8 b
 -- ---- the twist in place: entry after entry is overwritten, so that from entry 227 on new entries are read, and entry 623 is made with the
 -- NEW entry 0
 
+-- entry i is overwritten with what follows from itself and the entries j and k, as they are then
+abbrev pub renewWith : (t : List ℕ) (i j k : ℕ) → List ℕ
+renewWith t i j k = set t i (follow (getD t i 0) (getD t j 0) (getD t k 0))
+
 unfoldable pub renewAt : (t : List ℕ) (i : ℕ) → List ℕ
-renewAt t i = set t i (follow (getD t i 0) (getD t ((i + 1) % 624) 0) (getD t ((i + 397) % 624) 0))
+renewAt t i = renewWith t i ((i + 1) % 624) ((i + 397) % 624)
 
 -- the first n entries renewed
 unfoldable pub renewed : (n : ℕ) (t : List ℕ) → List ℕ

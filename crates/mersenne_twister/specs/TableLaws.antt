@@ -1,5 +1,5 @@
--- The table follows the sequence: the twist in place makes the next 624 terms of any sequence that starts with the table, and seeding in place makes the seed's table. With the laws of
--- single stores that the loops of the code turn by.
+-- The table follows the sequence: the twist in place makes the next 624 terms of any sequence that starts with the table and meets the
+-- recurrence, and seeding in place makes the seed's table. With the laws of single stores, by which the loops of the code turn.
 -- Assumes nothing.
 use mathlib.Core.List.{List}
 use mathlib.Core.Logic.{⊎-elim}
@@ -12,7 +12,7 @@ use lib.ListN.{length, getD, set, length-set}
 use lib.Seq.{getD-set-same, getD-set-other, ext-getD}
 use Rattle.mersenne_twister.specs.Sequence.{follow, Follows, StartsWith, terms, seedWord}
 use Rattle.mersenne_twister.specs.SequenceLaws.{length-terms, terms-at}
-use Rattle.mersenne_twister.specs.Table.{held, seedTable, seeded, stored, seededIn, renewAt, renewed}
+use Rattle.mersenne_twister.specs.Table.{held, seedTable, seeded, stored, seededIn, renewWith, renewAt, renewed}
 
 -- ---- stores in a row
 
@@ -86,6 +86,6 @@ module _ (t : List ℕ) (x : ℕ → ℕ) (len : length t ≡ 624) (s : StartsWi
 
 -- one turn of a loop that renews, where the code has its own numbers for the two places ahead
 pub renewed-more : (t m : List ℕ) (i j k : ℕ) → m ≡ renewed i t → j ≡ (i + 1) % 624 → k ≡ (i + 397) % 624
-    → set m i (follow (getD m i 0) (getD m j 0) (getD m k 0)) ≡ renewed (i + 1) t
+    → renewWith m i j k ≡ renewed (i + 1) t
 unfolding renewed renewAt
 renewed-more t m i j k p a b = rw (a, b, p) (ap (λ (n : ℕ). renewed n t) (sym (add-one i)))

@@ -1,10 +1,10 @@
 -- The definitions give the words that mt19937ar.c gives, worked out here.
 -- Assumes nothing.
-use mathlib.Core.List.{[], _∷_}
+use Prim.Native.Nat.{ℕ, suc}
 use mathlib.Core.Path.{_≡_, refl}
 use native.Mathlib.Omega.{arith}
 use Rattle.wrapping.specs.Bytes.{little}
-use Rattle.mersenne_twister.specs.Sequence.{timesA, joined, follow, temper, temper1, temper2, temper3, temper4, seedStep, seedWord}
+use Rattle.mersenne_twister.specs.Sequence.{terms, timesA, joined, follow, temper, temper1, temper2, temper3, temper4, seedStep, seedWord}
 use Rattle.mersenne_twister.specs.Table.{seeded, wordsXored, folded, wordOf}
 use Rattle.mersenne_twister.specs.SameWords.{early-words}
 
@@ -24,14 +24,10 @@ word-2 = early-words 5489 2 (omega arith)
 
 -- 32 bytes: counted up from 1, and all equal, which fold to 0
 
-counted : folded
-    (1 ∷ 2 ∷ 3 ∷ 4 ∷ 5 ∷ 6 ∷ 7 ∷ 8 ∷ 9 ∷ 10 ∷ 11 ∷ 12 ∷ 13 ∷ 14 ∷ 15 ∷ 16 ∷ 17 ∷ 18 ∷ 19 ∷ 20 ∷ 21 ∷ 22 ∷ 23 ∷ 24 ∷ 25 ∷ 26 ∷ 27 ∷ 28 ∷ 29 ∷ 30 ∷ 31 ∷ 32 ∷ [])
-    ≡ 0x20000000
-unfolding little wordsXored
+counted : folded (terms suc 0 32) ≡ 0x20000000
+unfolding terms little wordsXored
 counted = refl
 
-equal : folded
-    (7 ∷ 7 ∷ 7 ∷ 7 ∷ 7 ∷ 7 ∷ 7 ∷ 7 ∷ 7 ∷ 7 ∷ 7 ∷ 7 ∷ 7 ∷ 7 ∷ 7 ∷ 7 ∷ 7 ∷ 7 ∷ 7 ∷ 7 ∷ 7 ∷ 7 ∷ 7 ∷ 7 ∷ 7 ∷ 7 ∷ 7 ∷ 7 ∷ 7 ∷ 7 ∷ 7 ∷ 7 ∷ [])
-    ≡ 0
-unfolding little wordsXored
+equal : folded (terms (λ (k : ℕ). 7) 0 32) ≡ 0
+unfolding terms little wordsXored
 equal = refl

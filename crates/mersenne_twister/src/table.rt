@@ -1,9 +1,7 @@
 // The generator over a table that the caller lends: seeding, twist and draws in place. No table is copied.
 ghost use mathlib.Core.Path.{_≡_};
 ghost use Prim.Native.Nat.{_<_};
-ghost use lib.ListN.{getD, set};
-ghost use Rattle.mersenne_twister.specs.Sequence.{follow};
-ghost use Rattle.mersenne_twister.specs.Table.{held, renewed, folded, storedPosition, seededIn, twistedIn, drawnIn, drawn64In, stepped, stepped64};
+ghost use Rattle.mersenne_twister.specs.Table.{held, renewWith, renewed, folded, storedPosition, seededIn, twistedIn, drawnIn, drawn64In, stepped, stepped64};
 use super::constants::END;
 use super::constants::M;
 use super::constants::N;
@@ -68,7 +66,7 @@ pub fn from_seed_in(mt: &mut [u32; 624], seed: &[u8; 32]) -> u32
 // Entry i is renewed from itself and the entries j and k.
 fn renew_at(mt: &mut [u32; 624], i: usize, j: usize, k: usize)
     requires { ⌜ (i < 624) × (j < 624) × (k < 624) ⌝ }
-    ensures { λ _. ⌜ now (mt .exit) ≡ set (now (mt .entry)) i (follow (getD (now (mt .entry)) i 0) (getD (now (mt .entry)) j 0) (getD (now (mt .entry)) k 0)) ⌝ }
+    ensures { λ _. ⌜ now (mt .exit) ≡ renewWith (now (mt .entry)) i j k ⌝ }
 {
     mt[i] = follow_word(mt[i], mt[j], mt[k]);
 }
