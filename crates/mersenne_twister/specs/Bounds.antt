@@ -14,7 +14,7 @@ use lib.Seq.{getD-set-same, getD-set-other, set-out}
 use Rattle.mersenne_twister.specs.declared.MersenneTwister.{MersenneTwister}
 use Rattle.mersenne_twister.specs.Sequence.{timesA, joined, follow, terms, temper, temper1, temper2, temper3, temper4, seedStep, seedWord}
 use Rattle.mersenne_twister.specs.SequenceLaws.{length-terms, terms-at}
-use Rattle.mersenne_twister.specs.Table.{seedTable, renewAt, renewed, drawn, drawn64, after, wordOf}
+use Rattle.mersenne_twister.specs.Table.{seedTable, stored, renewAt, renewed, drawn, drawn64, after, wordOf}
 use Rattle.mersenne_twister.specs.DrawLaws.{in-low, in-high, word64-is}
 
 abbrev pub Words : (t : List ℕ) → Type 0
@@ -81,6 +81,11 @@ words-set t i v w h j =
             | no gt ↦ there (λ e. gt (omega arith))
           ]
     ]
+
+pub words-stored : (x : ℕ → ℕ) (n : ℕ) (t : List ℕ) → ((i : ℕ) → x i < 2 ^ 32) → Words t → Words (stored x n t)
+unfolding stored
+words-stored x zero t b w = w
+words-stored x (suc n) t b w = words-set (stored x n t) n (x n) (words-stored x n t b w) (b n)
 
 pub words-renewed : (n : ℕ) (t : List ℕ) → Words t → Words (renewed n t)
 unfolding renewed renewAt

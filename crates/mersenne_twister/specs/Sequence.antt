@@ -1,5 +1,6 @@
 -- The sequence of MT19937, as M. Matsumoto and T. Nishimura define it in "Mersenne Twister: A 623-Dimensionally Equidistributed Uniform
--- Pseudo-Random Number Generator" (ACM TOMACS 8, 1998), section 2 and table II. A word of 32 bits is a number below 2 ^ 32.
+-- Pseudo-Random Number Generator" (ACM TOMACS 8, 1998), section 2: a sequence of words, with no table and no position. A word of 32 bits is
+-- a number below 2 ^ 32, its bits are the number's, and A is the paper's matrix.
 use mathlib.Core.Bool.{Bool, true, false}
 use mathlib.Core.List.{List, [], _∷_, _++_}
 use mathlib.Core.Path.{_≡_}
@@ -8,11 +9,12 @@ use lib.Bits.{bitAnd, bitXor}
 use lib.Dec.{eqb}
 use lib.ListN.{getD, drop}
 
+-- a where the test holds, and b otherwise
 abbrev pub pick : {A : Type 0} → Bool → A → A → A
 pick true a b = a
 pick false a b = b
 
--- ---- the recurrence (2.1), with n = 624, m = 397, r = 31
+-- ---- the recurrence, with the paper's n = 624, m = 397, r = 31 and a = 9908B0DF
 
 -- v A: the row v shifted right by one, and the last row of A added where the bit that is shifted out is 1
 unfoldable pub timesA : (v : ℕ) → ℕ
@@ -53,7 +55,7 @@ unfoldable pub terms : (x : ℕ → ℕ) (k n : ℕ) → List ℕ
 terms x k zero = []
 terms x k (suc n) = x k ∷ terms x (suc k) n
 
--- ---- the tempering (2.2) to (2.5), with u = 11, s = 7, b = 9D2C5680, t = 15, c = EFC60000, l = 18
+-- ---- the tempering in the paper's four steps, with u = 11, s = 7, b = 9D2C5680, t = 15, c = EFC60000, l = 18
 
 unfoldable pub temper1 : (x : ℕ) → ℕ
 temper1 x = bitXor x (x / 2 ^ 11)
