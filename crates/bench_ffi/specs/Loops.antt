@@ -2,7 +2,7 @@
 use Prim.Native.Nat.{ℕ}
 use Rattle.bench_ffi.specs.Steps.{after, xorOf}
 use Rattle.mersenne_twister.specs.Table as twister
-use Rattle.mersenne_twister.specs.declared.Drawn as drawn-twister
+use Rattle.mersenne_twister.specs.declared.Drawn32 as drawn-twister
 use Rattle.mersenne_twister.specs.declared.MersenneTwister.{MersenneTwister}
 use Rattle.pcg.specs.Pcg32 as pcg32
 use Rattle.pcg.specs.Pcg64 as pcg64
@@ -30,5 +30,5 @@ twisterStep g = twister.drawn g .next
 abbrev pub twisterWord : MersenneTwister → ℕ
 twisterWord g = twister.drawn g .word
 
-abbrev pub twisterWords : ℕ → MersenneTwister → drawn-twister.Drawn
+abbrev pub twisterWords : ℕ → MersenneTwister → drawn-twister.Drawn32
 twisterWords n g = record { word = xorOf twisterStep twisterWord n g; next = after twisterStep n g }

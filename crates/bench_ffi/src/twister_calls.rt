@@ -2,7 +2,7 @@
 ghost use mathlib.Core.Path.{_≡_};
 ghost use Rattle.mersenne_twister.specs.Table.{held, folded, storedPosition, seeded, seededIn, twistedIn, drawn, drawnIn, drawn64In, stepped, stepped64};
 ghost use Rattle.bench_ffi.specs.Loops.{twisterWords};
-use mersenne_twister::Drawn;
+use mersenne_twister::Drawn32;
 use mersenne_twister::MersenneTwister;
 use mersenne_twister::Step;
 use mersenne_twister::Step64;
@@ -74,7 +74,7 @@ pub extern "C" fn mt_value_seed(seed: u32) -> MersenneTwister
 }
 
 #[no_mangle]
-pub extern "C" fn mt_value_rand(g: MersenneTwister) -> Drawn
+pub extern "C" fn mt_value_rand(g: MersenneTwister) -> Drawn32
     ensures { λ r. ⌜ r ≡ drawn g ⌝ }
 {
     g.rand()
@@ -82,7 +82,7 @@ pub extern "C" fn mt_value_rand(g: MersenneTwister) -> Drawn
 
 // The XOR of the next n words, each through the call by value, and the generator after them.
 #[no_mangle]
-pub extern "C" fn mt_value_words(g: MersenneTwister, n: u64) -> Drawn
+pub extern "C" fn mt_value_words(g: MersenneTwister, n: u64) -> Drawn32
     ensures { λ r. ⌜ r ≡ twisterWords n g ⌝ }
 {
     let mut next = g;
@@ -94,5 +94,5 @@ pub extern "C" fn mt_value_words(g: MersenneTwister, n: u64) -> Drawn
         next = d.next;
         i += 1;
     }
-    Drawn { word, next }
+    Drawn32 { word, next }
 }

@@ -9,7 +9,7 @@ use native.Mathlib.Numerals.{add-one}
 use borrow.Author.Tests.{lt-ltb, le-ltb}
 use lib.ListN.{length}
 use Rattle.mersenne_twister.specs.declared.MersenneTwister.{MersenneTwister}
-use Rattle.mersenne_twister.specs.declared.Drawn.{Drawn}
+use Rattle.mersenne_twister.specs.declared.Drawn32.{Drawn32}
 use Rattle.mersenne_twister.specs.declared.Drawn64.{Drawn64}
 use Rattle.mersenne_twister.specs.declared.table.Step.{Step}
 use Rattle.mersenne_twister.specs.declared.table.Step64.{Step64}
@@ -41,16 +41,16 @@ length-next g =
 
 -- ---- what the equation of a draw over a lent table says of the word, the position and the table left
 
-pub record StepIs (r : Step) (t : List ℕ) (d : Drawn) : Type 0 where
+pub record StepIs (r : Step) (t : List ℕ) (d : Drawn32) : Type 0 where
   pub word : r .word ≡ d .word
   pub mti : r .mti ≡ d .next .mti
   pub table : t ≡ d .next .mt
 
-pub step-is : (r : Step) (t : List ℕ) (d : Drawn) → stepped r t ≡ d → StepIs r t d
+pub step-is : (r : Step) (t : List ℕ) (d : Drawn32) → stepped r t ≡ d → StepIs r t d
 step-is r t d e = record {
-  word = ap (λ (a : Drawn). a .word) e;
-  mti = ap (λ (a : Drawn). a .next .mti) e;
-  table = ap (λ (a : Drawn). a .next .mt) e;
+  word = ap (λ (a : Drawn32). a .word) e;
+  mti = ap (λ (a : Drawn32). a .next .mti) e;
+  table = ap (λ (a : Drawn32). a .next .mt) e;
 }
 
 pub record Step64Is (r : Step64) (t : List ℕ) (d : Drawn64) : Type 0 where
@@ -83,12 +83,12 @@ length-after zero g = refl
 length-after (suc n) g = length-next (after n g) ∙ length-after n g
 
 -- one turn of a loop that draws: h is the generator after k draws from g, and d what a draw from it gives
-pub after-more : (g h : MersenneTwister) (k : ℕ) (d : Drawn) → h ≡ after k g → d ≡ drawn h
+pub after-more : (g h : MersenneTwister) (k : ℕ) (d : Drawn32) → h ≡ after k g → d ≡ drawn h
     → (d .next ≡ after (k + 1) g) × (d .word ≡ wordOf g k)
 unfolding after wordOf
 after-more g h k d p q =
     let e : d ≡ drawn (after k g) = q ∙ ap (λ (a : MersenneTwister). drawn a) p in
-    (rw add-one (ap (λ (a : Drawn). a .next) e), ap (λ (a : Drawn). a .word) e)
+    (rw add-one (ap (λ (a : Drawn32). a .next) e), ap (λ (a : Drawn32). a .word) e)
 
 -- a word of 64 bits is the next two words, the first of them high
 pub word64-is : (g : MersenneTwister) → drawn64 g .word ≡ wordOf g 0 * 2 ^ 32 + wordOf g 1
@@ -100,7 +100,7 @@ unfolding drawn64 after
 next64-is g = refl
 
 -- two draws, one after the other, make it
-pub drawn64-is : (g : MersenneTwister) (first second : Drawn) (w : ℕ) → first ≡ drawn g → second ≡ drawn (first .next)
+pub drawn64-is : (g : MersenneTwister) (first second : Drawn32) (w : ℕ) → first ≡ drawn g → second ≡ drawn (first .next)
     → w ≡ first .word * 2 ^ 32 + second .word → record { word = w; next = second .next } ≡ drawn64 g
 unfolding drawn64
 drawn64-is g first second w p q e = rw (e, q, p)

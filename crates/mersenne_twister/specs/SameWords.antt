@@ -9,7 +9,7 @@ use native.Mathlib.Numerals.{add-one, one-add, add-one-le}
 use native.Mathlib.Omega.{arith}
 use lib.ListN.{length, getD}
 use Rattle.mersenne_twister.specs.declared.MersenneTwister.{MersenneTwister}
-use Rattle.mersenne_twister.specs.declared.Drawn.{Drawn}
+use Rattle.mersenne_twister.specs.declared.Drawn32.{Drawn32}
 use Rattle.mersenne_twister.specs.Sequence.{follow, Follows, StartsWith, sequence, terms, temper, seedWord}
 use Rattle.mersenne_twister.specs.SequenceLaws.{sequence-first, follows, follows-from, length-terms, terms-at, terms-from, terms-start, start-terms}
 use Rattle.mersenne_twister.specs.Table.{held, storedPosition, seedTable, seeded, renewed, drawnAt, drawnIn, drawn, after, wordOf}
@@ -46,7 +46,7 @@ stand f b p =
 
 stands-word : {x : ℕ → ℕ} {q : ℕ} {g : MersenneTwister} → Stands x q g → drawn g .word ≡ temper (x q)
 stands-word {x} s =
-    ap (λ (d : Drawn). d .word) (s .is) ∙ ap temper (terms-at x (s .base) 624 (s .place) (s .low) ∙ ap x (s .there))
+    ap (λ (d : Drawn32). d .word) (s .is) ∙ ap temper (terms-at x (s .base) 624 (s .place) (s .low) ∙ ap x (s .there))
 
 stands-next : {x : ℕ → ℕ} {q : ℕ} {g : MersenneTwister} → Follows x → Stands x q g → Stands x (q + 1) (drawn g .next)
 stands-next {q = q} f s =
@@ -100,8 +100,8 @@ from-next g k = ap (λ (n : ℕ). after n g) (sym (one-add k)) ∙ after-add 1 k
 
 pub stored-words : (t : List ℕ) (p k : ℕ) → wordOf (held t (storedPosition p)) k ≡ wordOf (held t p) k
 unfolding wordOf after
-stored-words t p zero = ap (λ (d : Drawn). d .word) (drawn-stored t p)
+stored-words t p zero = ap (λ (d : Drawn32). d .word) (drawn-stored t p)
 stored-words t p (suc k) =
     let same : after k (drawn (held t (storedPosition p)) .next) ≡ after k (drawn (held t p) .next)
-    = ap (λ (d : Drawn). after k (d .next)) (drawn-stored t p) in
+    = ap (λ (d : Drawn32). after k (d .next)) (drawn-stored t p) in
     ap (λ (h : MersenneTwister). drawn h .word) (from-next (held t (storedPosition p)) k ∙ same ∙ sym (from-next (held t p) k))

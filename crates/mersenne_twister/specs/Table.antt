@@ -6,7 +6,7 @@ use lib.Dec.{ltb}
 use lib.ListN.{getD, set}
 use Rattle.wrapping.specs.Bytes.{little}
 use Rattle.mersenne_twister.specs.declared.MersenneTwister.{MersenneTwister}
-use Rattle.mersenne_twister.specs.declared.Drawn.{Drawn}
+use Rattle.mersenne_twister.specs.declared.Drawn32.{Drawn32}
 use Rattle.mersenne_twister.specs.declared.Drawn64.{Drawn64}
 use Rattle.mersenne_twister.specs.declared.table.Step.{Step}
 use Rattle.mersenne_twister.specs.declared.table.Step64.{Step64}
@@ -68,14 +68,14 @@ twisted g = twistedIn (g .mt)
 -- ---- a draw (`genrand_int32`)
 
 -- the entry p is tempered, and the position moves on
-abbrev pub drawnAt : (t : List ℕ) (p : ℕ) → Drawn
+abbrev pub drawnAt : (t : List ℕ) (p : ℕ) → Drawn32
 drawnAt t p = record { word = temper (getD t p 0); next = held t (p + 1) }
 
 -- at position 624 or above the table is twisted first
-unfoldable pub drawnIn : (t : List ℕ) (p : ℕ) → Drawn
+unfoldable pub drawnIn : (t : List ℕ) (p : ℕ) → Drawn32
 drawnIn t p = pick (ltb p 624) (drawnAt t p) (drawnAt (renewed 624 t) 0)
 
-abbrev pub drawn : (g : MersenneTwister) → Drawn
+abbrev pub drawn : (g : MersenneTwister) → Drawn32
 drawn g = drawnIn (g .mt) (g .mti)
 
 -- two words as one, the high word first
@@ -86,7 +86,7 @@ abbrev pub drawn64In : (t : List ℕ) (p : ℕ) → Drawn64
 drawn64In t p = drawn64 (held t p)
 
 -- what a draw over a lent table answers, with the table that it leaves
-abbrev pub stepped : (r : Step) (t : List ℕ) → Drawn
+abbrev pub stepped : (r : Step) (t : List ℕ) → Drawn32
 stepped r t = record { word = r .word; next = held t (r .mti) }
 
 abbrev pub stepped64 : (r : Step64) (t : List ℕ) → Drawn64

@@ -23,7 +23,7 @@ pub struct MersenneTwister {
 
 // A word, and the generator after it.
 #[repr(C)]
-pub struct Drawn {
+pub struct Drawn32 {
     pub word: u32,
     pub next: MersenneTwister,
 }
@@ -68,13 +68,13 @@ impl MersenneTwister {
     }
 
     // The next word.
-    pub fn rand(mut self) -> Drawn
+    pub fn rand(mut self) -> Drawn32
         ensures { λ r. ⌜ r ≡ drawn self ⌝ }
     {
         let mti = self.mti;
         let step = rand_in(&mut self.mt, mti);
         self.mti = step.mti;
-        Drawn {
+        Drawn32 {
             word: step.word,
             next: self,
         }

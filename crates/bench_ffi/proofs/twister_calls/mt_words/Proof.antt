@@ -4,7 +4,7 @@ use native.Mathlib.Omega.{arith}
 use mathlib.Core.Path.{_≡_, ap}
 use Prim.Native.Nat.{_≤_, _-_}
 use Rattle.mersenne_twister.specs.Table.{held}
-use Rattle.mersenne_twister.specs.declared.Drawn.{Drawn}
+use Rattle.mersenne_twister.specs.declared.Drawn32.{Drawn32}
 use Rattle.bench_ffi.specs.Loops.{twisterStep, twisterWord}
 use Rattle.bench_ffi.specs.Steps.{Came, came-nowhere, came-further}
 use Rattle.bench_ffi.proofs.twister_calls.mt_words.Statement.{statement}
@@ -34,7 +34,7 @@ loop-again c =
     let drawn = c .before .rand-in .ensures in (
       omega arith,
       came-further twisterStep twisterWord _ (loop .i) (held (loop .mt) (loop .at)) _ (loop .word) _ (loop .inv .1)
-          (ap (λ (d : Drawn). d .next) drawn) (ap (λ (d : Drawn). d .word) drawn),
+          (ap (λ (d : Drawn32). d .next) drawn) (ap (λ (d : Drawn32). d .word) drawn),
     )
 
 returns : tie.Need-returns Inv-loop μ-loop

@@ -1,0 +1,4 @@
+-- The facade generator: what its words are, and what each of its calls hands back.
+pub mod Generator
+pub mod GeneratorLaws
+pub mod Lent

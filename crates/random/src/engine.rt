@@ -1,0 +1,128 @@
+// The lent layer: a generator's small words by value, and the twister's table lent by the caller. No table is copied.
+ghost use mathlib.Core.Path.{_≡_};
+ghost use Rattle.random.specs.Generator.{drawn32, drawn64, drawnOwn, widthOf};
+ghost use Rattle.random.specs.Lent.{lent, given, given64, answerOf, answer64Of};
+use crate::backend::Backend;
+
+// All of a generator but the table.
+pub struct Engine {
+    pub backend: Backend,
+    pub mti: u32,
+}
+
+// A word of 32 bits, and the engine after it.
+pub struct EngineWord {
+    pub word: u32,
+    pub next: Engine,
+}
+
+// A word of up to 64 bits, and the engine after it.
+pub struct EngineWord64 {
+    pub word: u64,
+    pub next: Engine,
+}
+
+// A word with the engine after it, put together.
+fn answer(word: u32, backend: Backend, mti: u32) -> EngineWord
+    ensures { λ r. ⌜ r ≡ answerOf word backend mti ⌝ }
+{
+    EngineWord {
+        word,
+        next: Engine { backend, mti },
+    }
+}
+
+fn answer64(word: u64, backend: Backend, mti: u32) -> EngineWord64
+    ensures { λ r. ⌜ r ≡ answer64Of word backend mti ⌝ }
+{
+    EngineWord64 {
+        word,
+        next: Engine { backend, mti },
+    }
+}
+
+// The next word of 32 bits, which is what `rand` gives.
+pub fn next_u32(e: Engine, mt: &mut [u32; 624]) -> EngineWord
+    ensures { λ r. ⌜ given r (now (mt .exit)) ≡ drawn32 (lent e (now (mt .entry))) ⌝ }
+{
+    let mti = e.mti;
+    let backend = e.backend;
+    match backend {
+        Backend::Xoshiro256PlusPlus(x) => {
+            let d = x.next_u32();
+            let next = d.next;
+            answer(d.word, Backend::Xoshiro256PlusPlus(next), mti)
+        }
+        Backend::MersenneTwister => {
+            let s = mersenne_twister::rand_in(mt, mti);
+            answer(s.word, Backend::MersenneTwister, s.mti)
+        }
+        Backend::Pcg32(p) => {
+            let d = p.next_u32();
+            let next = d.next;
+            answer(d.word, Backend::Pcg32(next), mti)
+        }
+        Backend::Pcg64(p) => {
+            let d = p.next_u32();
+            let next = d.next;
+            answer(d.word, Backend::Pcg64(next), mti)
+        }
+    }
+}
+
+// The next word of 64 bits, by the kind's own order of halves.
+pub fn next_u64(e: Engine, mt: &mut [u32; 624]) -> EngineWord64
+    ensures { λ r. ⌜ given64 r (now (mt .exit)) ≡ drawn64 (lent e (now (mt .entry))) ⌝ }
+{
+    let mti = e.mti;
+    let backend = e.backend;
+    match backend {
+        Backend::Xoshiro256PlusPlus(x) => {
+            let d = x.next_u64();
+            let next = d.next;
+            answer64(d.word, Backend::Xoshiro256PlusPlus(next), mti)
+        }
+        Backend::MersenneTwister => {
+            let s = mersenne_twister::next_u64_in(mt, mti);
+            answer64(s.word, Backend::MersenneTwister, s.mti)
+        }
+        Backend::Pcg32(p) => {
+            let d = p.next_u64();
+            let next = d.next;
+            answer64(d.word, Backend::Pcg32(next), mti)
+        }
+        Backend::Pcg64(p) => {
+            let d = p.next_u64();
+            let next = d.next;
+            answer64(d.word, Backend::Pcg64(next), mti)
+        }
+    }
+}
+
+// How many bytes the kind's own word has.
+pub fn width(backend: Backend) -> usize
+    ensures { λ r. ⌜ r ≡ widthOf backend ⌝ }
+{
+    match backend {
+        Backend::Xoshiro256PlusPlus(_) => 8,
+        Backend::MersenneTwister => 4,
+        Backend::Pcg32(_) => 4,
+        Backend::Pcg64(_) => 8,
+    }
+}
+
+// The next word of the kind's own width: one step of its engine.
+pub fn next_own(e: Engine, mt: &mut [u32; 624]) -> EngineWord64
+    ensures { λ r. ⌜ given64 r (now (mt .exit)) ≡ drawnOwn (lent e (now (mt .entry))) ⌝ }
+{
+    let backend = e.backend;
+    if width(backend) == 8 {
+        return next_u64(e, mt);
+    }
+    let d = next_u32(e, mt);
+    let next = d.next;
+    EngineWord64 {
+        word: d.word as u64,
+        next,
+    }
+}
