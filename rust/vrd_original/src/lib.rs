@@ -12,4 +12,5 @@ extern crate std;
 include!(concat!(env!("OUT_DIR"), "/modules.rs"));
 mod ziggurat;
 
+pub use rand::rand_core;
 pub use random::{FloatExt, MersenneTwister, Random, RngBackend};

@@ -1,0 +1,33 @@
+//! Compares each generator of the port with the original Rust: makers, single steps, loops of words, jump, twist,
+//! set_mti and states set by hand. Progress goes to standard error, the table to standard output; the status is not 0
+//! where anything differs.
+
+mod pcg32;
+mod pcg64;
+mod seeds;
+mod subject;
+mod tally;
+mod twister;
+mod xoshiro;
+
+use std::process::ExitCode;
+
+/// Words of each generator drawn through the exported loops.
+const LOOP_WORDS: u64 = 10_000_000;
+
+/// Words of each generator and call drawn one by one.
+const STEP_WORDS: u64 = 1_000_000;
+
+fn main() -> ExitCode {
+    let mut tally = tally::Tally::default();
+    xoshiro::compare(&mut tally);
+    pcg32::compare(&mut tally);
+    pcg64::compare(&mut tally);
+    twister::compare(&mut tally);
+    print!("{tally}");
+    if tally.differences() == 0 {
+        ExitCode::SUCCESS
+    } else {
+        ExitCode::FAILURE
+    }
+}

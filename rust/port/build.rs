@@ -1,0 +1,41 @@
+//! Has the Rattle kit prove and compile the crate `bench_ffi`, and tells cargo to link the archive that it writes.
+
+use std::io::ErrorKind;
+use std::path::Path;
+use std::process::Command;
+
+/// The Rattle crate whose exports are linked.
+const CRATE: &str = "bench_ffi";
+
+fn main() {
+    let root = Path::new(env!("CARGO_MANIFEST_DIR")).join("../..");
+    for watched in ["crates", "crates.txt"] {
+        println!("cargo::rerun-if-changed={}", root.join(watched).display());
+    }
+    match archive(&root) {
+        Ok(()) => {
+            println!("cargo::rustc-link-search=native={}", root.join("target/staticlib").display());
+            println!("cargo::rustc-link-lib=static={CRATE}");
+        }
+        // Cargo shows this as one error and stops.
+        Err(message) => println!("cargo::error={message}"),
+    }
+}
+
+/// Runs `rt staticlib` in the repository's root, or says why there is no archive.
+fn archive(root: &Path) -> Result<(), String> {
+    let run = Command::new("rt").args(["staticlib", CRATE]).current_dir(root).output().map_err(|e| match e.kind() {
+        ErrorKind::NotFound => format!(
+            "the Rattle kit is not on this machine: its command 'rt' is not on the PATH, and only it can compile \
+             the crate {CRATE} that this program links."
+        ),
+        _ => format!("'rt staticlib {CRATE}' could not be started: {e}"),
+    })?;
+    if run.status.success() {
+        return Ok(());
+    }
+    eprintln!("{}{}", String::from_utf8_lossy(&run.stdout), String::from_utf8_lossy(&run.stderr));
+    let said = String::from_utf8_lossy(&run.stderr).trim().replace('\n', " / ");
+    let said = if said.is_empty() { String::from_utf8_lossy(&run.stdout).trim().replace('\n', " / ") } else { said };
+    Err(format!("'rt staticlib {CRATE}' in the root of this repository failed ({}): {said}", run.status))
+}
