@@ -1,8 +1,10 @@
 //! Has the Rattle kit prove and compile the crate `bench_ffi`, and tells cargo to link the archive that it writes.
+//! The archive is copied to cargo's own folder, since `rt ci` removes the one of the kit.
 
 use std::io::ErrorKind;
-use std::path::Path;
+use std::path::{Path, PathBuf};
 use std::process::Command;
+use std::{env, fs};
 
 /// The Rattle crate whose exports are linked.
 const CRATE: &str = "bench_ffi";
@@ -12,14 +14,23 @@ fn main() {
     for watched in ["crates", "crates.txt"] {
         println!("cargo::rerun-if-changed={}", root.join(watched).display());
     }
-    match archive(&root) {
-        Ok(()) => {
-            println!("cargo::rustc-link-search=native={}", root.join("target/staticlib").display());
+    match archive(&root).and_then(|()| copied(&root)) {
+        Ok(folder) => {
+            println!("cargo::rustc-link-search=native={}", folder.display());
             println!("cargo::rustc-link-lib=static={CRATE}");
         }
         // Cargo shows this as one error and stops.
         Err(message) => println!("cargo::error={message}"),
     }
+}
+
+/// The folder of cargo's that the archive was copied to.
+fn copied(root: &Path) -> Result<PathBuf, String> {
+    let folder = PathBuf::from(env::var("OUT_DIR").map_err(|e| format!("OUT_DIR: {e}"))?);
+    let file = format!("lib{CRATE}.a");
+    let written = root.join("target/staticlib").join(&file);
+    fs::copy(&written, folder.join(&file)).map_err(|e| format!("{} cannot be copied ({e})", written.display()))?;
+    Ok(folder)
 }
 
 /// Runs `rt staticlib` in the repository's root, or says why there is no archive.
