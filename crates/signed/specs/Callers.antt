@@ -1,0 +1,35 @@
+-- What a caller cites that has signed numbers of 32 bits: its facts speak of x as `read x`, what the machine reads back of x's bits,
+-- and these laws tell the same of x itself. `f` and `g` are `c .fits` of the two parameters.
+-- Assumes nothing.
+use mathlib.Core.Path.{_≡_, _∙_}
+use mathlib.Core.Bool.{Bool}
+use Prim.Native.Nat.{ℕ, _^_, _≤_, _<_}
+use lib.IntN.{ℤ, pos, _+ℤ_}
+use lib.Signed.{mag, ltZ}
+use mir.Syntax.{Width, w32}
+use mir.Val.{hbits, SFits, ofZ, toZ}
+use mir.ValLaws.{toZ-ofZ}
+use Rattle.signed.specs.Signed.{wrappedSum, gap}
+use Rattle.signed.specs.SignedLaws.{sum-exact}
+use Rattle.signed.specs.GapLaws.{gap-fits}
+
+abbrev pub read : ℤ → ℤ
+read z = toZ w32 (ofZ w32 z)
+
+-- a call's result is what it is read back as; `small` is the call's `.ok`
+pub result-read : (w : Width) (r : ℤ) → mag r < 2 ^ hbits w → toZ w (ofZ w r) ≡ r
+result-read w r small = toZ-ofZ w r (record { sfits = small })
+
+module _ {min max : ℤ} (f : SFits w32 min) (g : SFits w32 max) where
+  -- the test `max < min`
+  pub test-read : {t : Bool} → ltZ (read max) (read min) ≡ t → ltZ max min ≡ t
+  test-read h = rw (toZ-ofZ w32 max g, toZ-ofZ w32 min f) at h
+
+  -- the answer of `span_of`
+  pub span-read : {s : ℕ} → s ≡ gap (read min) (read max) → s ≡ gap min max
+  span-read h = rw (toZ-ofZ w32 max g, toZ-ofZ w32 min f) at h
+
+  -- the answer of `wrapping_add_signed`, where the word added is within the gap
+  pub sum-read : {v : ℕ} {r : ℤ} → mag r < 2 ^ 31 → v ≤ gap min max → r ≡ wrappedSum 32 (read min) v → read r ≡ min +ℤ pos v
+  sum-read {v} {r} small q h =
+      result-read w32 r small ∙ h ∙ rw (toZ-ofZ w32 min f) (sum-exact w32 min v (gap-fits f g q))

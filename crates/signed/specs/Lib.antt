@@ -1,0 +1,7 @@
+-- What signed numbers and their words mean over the integers, with the laws that hold of it.
+pub mod Signed
+pub mod SignedLaws
+pub mod GapLaws
+pub mod Steps
+pub mod Callers
+pub mod Examples
