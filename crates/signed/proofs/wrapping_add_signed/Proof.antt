@@ -22,7 +22,7 @@ add-signed-u32 : tie.Need-add-signed-u32
 add-signed-u32 c = rw (lifted (c .fits .x)) (record { fits = omega (arith, lift-small (c .fits .x)) })
 
 cast-signed-u32 : tie.Need-cast-signed-u32
-cast-signed-u32 c = search needs
+cast-signed-u32 c = record { fits = omega arith }
 
 signed-u32-requires : tie.Need-signed-u32-requires
 signed-u32-requires c κs = search needs
