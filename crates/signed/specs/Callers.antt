@@ -1,5 +1,5 @@
 -- What a caller cites that has signed numbers of 32 bits: its facts speak of x as `read x`, what the machine reads back of x's bits,
--- and these laws tell the same of x itself. `f` and `g` are `c .fits` of the two parameters.
+-- and these laws tell the same of x itself. `f` and `g` are `c .fits .min` and `c .fits .max`.
 -- Assumes nothing.
 use mathlib.Core.Path.{_≡_, _∙_}
 use mathlib.Core.Bool.{Bool}
@@ -16,20 +16,24 @@ use Rattle.signed.specs.GapLaws.{gap-fits}
 abbrev pub read : ℤ → ℤ
 read z = toZ w32 (ofZ w32 z)
 
--- a call's result is what it is read back as; `small` is the call's `.ok`
+-- a parameter, by `c .fits`, and a call's result, by its `.ok`
+pub arg-read : {x : ℤ} → SFits w32 x → read x ≡ x
+arg-read {x} f = toZ-ofZ w32 x f
+
 pub result-read : (w : Width) (r : ℤ) → mag r < 2 ^ hbits w → toZ w (ofZ w r) ≡ r
 result-read w r small = toZ-ofZ w r (record { sfits = small })
 
 module _ {min max : ℤ} (f : SFits w32 min) (g : SFits w32 max) where
   -- the test `max < min`
   pub test-read : {t : Bool} → ltZ (read max) (read min) ≡ t → ltZ max min ≡ t
-  test-read h = rw (toZ-ofZ w32 max g, toZ-ofZ w32 min f) at h
+  test-read h = rw (arg-read g, arg-read f) at h
 
   -- the answer of `span_of`
   pub span-read : {s : ℕ} → s ≡ gap (read min) (read max) → s ≡ gap min max
-  span-read h = rw (toZ-ofZ w32 max g, toZ-ofZ w32 min f) at h
+  span-read h = rw (arg-read g, arg-read f) at h
 
-  -- the answer of `wrapping_add_signed`, where the word added is within the gap
-  pub sum-read : {v : ℕ} {r : ℤ} → mag r < 2 ^ 31 → v ≤ gap min max → r ≡ wrappedSum 32 (read min) v → read r ≡ min +ℤ pos v
-  sum-read {v} {r} small q h =
-      result-read w32 r small ∙ h ∙ rw (toZ-ofZ w32 min f) (sum-exact w32 min v (gap-fits f g q))
+  -- the answer of `wrapping_add_signed`, where the word that is added is at most the span
+  pub sum-read : {s v : ℕ} {r : ℤ} → s ≡ gap (read min) (read max) → v ≤ s → mag r < 2 ^ 31 → r ≡ wrappedSum 32 (read min) v → read r ≡ min +ℤ pos v
+  sum-read {s} {v} {r} e q small h =
+      let fits : SFits w32 (min +ℤ pos v) = gap-fits f g (rw (span-read e) at q) in
+      result-read w32 r small ∙ h ∙ rw (arg-read f) (sum-exact w32 min v fits)

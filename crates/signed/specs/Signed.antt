@@ -8,7 +8,7 @@ use lib.IntN.{ℤ, pos, negsuc, subℕ, _+ℤ_, _-ℤ_}
 unfoldable pub signedOf : (k n : ℕ) → ℤ
 signedOf k n = cond (ltb n (2 ^ (k - 1))) (pos n) (subℕ n (2 ^ k))
 
--- an integer modulo 2 ^ k
+-- an integer modulo 2 ^ k; `negsuc n` is the integer -(n + 1)
 abbrev pub wordOf : (k : ℕ) → ℤ → ℕ
 wordOf k (pos n) = n % 2 ^ k
 wordOf k (negsuc n) = 2 ^ k - suc (n % 2 ^ k)
