@@ -2,3 +2,5 @@
 pub mod Generator
 pub mod GeneratorLaws
 pub mod Lent
+pub mod Words
+pub mod WordsLaws

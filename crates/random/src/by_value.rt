@@ -1,0 +1,63 @@
+// Words by value: of 32 bits, of 64, and 32 words XORed. Each call hands back the next generator.
+ghost use mathlib.Core.Path.{_≡_};
+ghost use Rattle.random.specs.Words.{engineIn, joinedWith, randOf, u64Of, pseudoOf};
+use crate::backend::Random;
+use crate::engine;
+use crate::engine::Engine;
+use mersenne_twister::MersenneTwister;
+
+// A word of 32 bits, and the generator after it.
+pub struct Word32 {
+    pub word: u32,
+    pub next: Random,
+}
+
+// A word of 64 bits, and the generator after it.
+pub struct Word64 {
+    pub word: u64,
+    pub next: Random,
+}
+
+// All of a generator but its table.
+pub fn engine_of(g: Random) -> Engine
+    ensures { λ r. ⌜ r ≡ engineIn g ⌝ }
+{
+    let backend = g.backend;
+    Engine {
+        backend,
+        mti: g.twister.mti,
+    }
+}
+
+// An engine and a table, joined to a generator.
+pub fn with_table(e: Engine, mt: [u32; 624]) -> Random
+    ensures { λ r. ⌜ r ≡ joinedWith e mt ⌝ }
+{
+    let backend = e.backend;
+    let twister = MersenneTwister { mt, mti: e.mti };
+    Random { backend, twister }
+}
+
+// The next word.
+pub fn rand(g: Random) -> Word32
+    ensures { λ r. ⌜ r ≡ randOf g ⌝ }
+{
+    let mut moved = g;
+    let d = engine::next_u32(engine_of(g), &mut moved.twister.mt);
+    let e = d.next;
+    let mt = moved.twister.mt;
+    let next = with_table(e, mt);
+    Word32 { word: d.word, next }
+}
+
+// The next 64-bit word, by the kind's own order of halves.
+pub fn u64(g: Random) -> Word64
+    ensures { λ r. ⌜ r ≡ u64Of g ⌝ }
+{
+    let mut moved = g;
+    let d = engine::next_u64(engine_of(g), &mut moved.twister.mt);
+    let e = d.next;
+    let mt = moved.twister.mt;
+    let next = with_table(e, mt);
+    Word64 { word: d.word, next }
+}
