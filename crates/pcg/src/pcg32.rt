@@ -72,8 +72,15 @@ impl Pcg32 {
     pub fn from_seed(seed: [u8; 16]) -> Pcg32
         ensures { λ r. ⌜ r ≡ seededBytes seed ⌝ }
     {
-        let state = wrapping::le_u64(&seed, 0);
-        let stream = wrapping::le_u64(&seed, 8);
+        Pcg32::from_slice(&seed)
+    }
+
+    // The same from a list of 16 bytes; what a shorter one lacks counts as 0, and what a longer one has beyond is not looked at.
+    pub fn from_slice(seed: &[u8]) -> Pcg32
+        ensures { λ r. ⌜ r ≡ seededBytes (now (seed .entry)) ⌝ }
+    {
+        let state = wrapping::le_u64(seed, 0);
+        let stream = wrapping::le_u64(seed, 8);
         Pcg32::from_seed_stream(state, stream / 2 * 2 + 1)
     }
 

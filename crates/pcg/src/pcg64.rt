@@ -86,13 +86,20 @@ impl Pcg64 {
     pub fn from_seed(seed: [u8; 32]) -> Pcg64
         ensures { λ r. ⌜ r ≡ seededBytes seed ⌝ }
     {
+        Pcg64::from_slice(&seed)
+    }
+
+    // The same from a list of 32 bytes; what a shorter one lacks counts as 0, and what a longer one has beyond is not looked at.
+    pub fn from_slice(seed: &[u8]) -> Pcg64
+        ensures { λ r. ⌜ r ≡ seededBytes (now (seed .entry)) ⌝ }
+    {
         let state = Wide {
-            high: wrapping::le_u64(&seed, 8),
-            low: wrapping::le_u64(&seed, 0),
+            high: wrapping::le_u64(seed, 8),
+            low: wrapping::le_u64(seed, 0),
         };
         let stream = Wide {
-            high: wrapping::le_u64(&seed, 24),
-            low: wrapping::le_u64(&seed, 16) / 2 * 2 + 1,
+            high: wrapping::le_u64(seed, 24),
+            low: wrapping::le_u64(seed, 16) / 2 * 2 + 1,
         };
         Pcg64::from_seed_stream(state, stream)
     }

@@ -48,7 +48,14 @@ impl Xoshiro256PlusPlus {
     pub fn from_seed(seed: [u8; 32]) -> Xoshiro256PlusPlus
         ensures { λ r. ⌜ r ≡ seededBytes seed ⌝ }
     {
-        Xoshiro256PlusPlus::from_u64_seed(seed::folded(&seed))
+        Xoshiro256PlusPlus::from_slice(&seed)
+    }
+
+    // The same from a list of 32 bytes; what a shorter one lacks counts as 0, and what a longer one has beyond is not looked at.
+    pub fn from_slice(seed: &[u8]) -> Xoshiro256PlusPlus
+        ensures { λ r. ⌜ r ≡ seededBytes (now (seed .entry)) ⌝ }
+    {
+        Xoshiro256PlusPlus::from_u64_seed(seed::folded(seed))
     }
 
     // The word that this state gives.

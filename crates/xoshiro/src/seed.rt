@@ -42,7 +42,7 @@ pub(crate) fn primed(seed: u64) -> Xoshiro256PlusPlus
 }
 
 // The four little-endian words of 32 bytes, XORed.
-pub(crate) fn folded(seed: &[u8; 32]) -> u64
+pub(crate) fn folded(seed: &[u8]) -> u64
     ensures { λ r. ⌜ r ≡ xorOfWords (now (seed .entry)) ⌝ }
 {
     let a = wrapping::le_u64(seed, 0);

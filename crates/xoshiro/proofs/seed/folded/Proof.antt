@@ -17,7 +17,7 @@ le-u64-requires-4 c κs = search needs
 
 returns : tie.Need-returns
 returns c =
-    rw (c .le-u644 .ensures, c .before .before .le-u643 .ensures, c .before .before .before .before .le-u642 .ensures, c .before .before .before .before .before .before .le-u64 .ensures)
+    rw (c .le-u644 .ensures, c .before .le-u643 .ensures, c .before .before .le-u642 .ensures, c .before .before .before .le-u64 .ensures)
 
 pub folded-spec : {M : Type 1} → statement M
 folded-spec =

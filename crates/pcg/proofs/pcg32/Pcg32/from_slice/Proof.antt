@@ -1,16 +1,10 @@
--- `Pcg32::from_seed` meets its contract. Assumes nothing.
+-- `Pcg32::from_slice` meets its contract. Assumes nothing.
 use borrow.Author.Needs.{needs}
-use Rattle.pcg.proofs.pcg32.Pcg32.from_seed.Statement.{statement}
-use Rattle.pcg.proofs.pcg32.Pcg32.from_seed.Tie as tie
-
-slice-aggregate-le-u64 : tie.Need-slice-aggregate-le-u64
-slice-aggregate-le-u64 c = search needs
+use Rattle.pcg.proofs.pcg32.Pcg32.from_slice.Statement.{statement}
+use Rattle.pcg.proofs.pcg32.Pcg32.from_slice.Tie as tie
 
 le-u64-requires : tie.Need-le-u64-requires
 le-u64-requires c κs = search needs
-
-slice-aggregate-le-u64-2 : tie.Need-slice-aggregate-le-u64-2
-slice-aggregate-le-u64-2 c = search needs
 
 le-u64-requires-2 : tie.Need-le-u64-requires-2
 le-u64-requires-2 c κs = search needs
@@ -25,15 +19,13 @@ from-seed-stream-requires : tie.Need-from-seed-stream-requires
 from-seed-stream-requires c κs = search needs
 
 returns : tie.Need-returns
-returns c = rw (c .from-seed-stream .ensures, c .before .le-u642 .ensures, c .before .before .before .le-u64 .ensures)
+returns c = rw (c .from-seed-stream .ensures, c .before .le-u642 .ensures, c .before .before .le-u64 .ensures)
 
-pub from-seed-spec : {M : Type 1} → statement M
-from-seed-spec =
+pub from-slice-spec : {M : Type 1} → statement M
+from-slice-spec =
     tie.close
     (tie.spec
-    slice-aggregate-le-u64
     le-u64-requires
-    slice-aggregate-le-u64-2
     le-u64-requires-2
     mul-from-seed-stream
     add-from-seed-stream

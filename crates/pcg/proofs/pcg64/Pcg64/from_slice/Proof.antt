@@ -1,15 +1,16 @@
--- `Pcg64::from_seed` meets its contract: two words of 8 bytes are the number of 16. Assumes nothing.
+-- `Pcg64::from_slice` meets its contract: two words of 8 bytes are the number of 16. Assumes nothing.
 use mathlib.Core.List.{List}
 use mathlib.Core.Path.{_≡_, _∙_, ap₂}
 use Prim.Native.Nat.{ℕ, _+_, _*_, _/_, _^_}
 use native.Mathlib.Omega.{arith}
+use denote.Ref.{now}
 use borrow.Author.Needs.{needs}
 use Rattle.wrapping.specs.Bytes.{little}
 use Rattle.wrapping.specs.BytesLaws.{little-joined}
 use Rattle.pcg.specs.Lcg.{lowBitSet}
 use Rattle.pcg.specs.Pcg64.{seeded}
-use Rattle.pcg.proofs.pcg64.Pcg64.from_seed.Statement.{statement}
-use Rattle.pcg.proofs.pcg64.Pcg64.from_seed.Tie as tie
+use Rattle.pcg.proofs.pcg64.Pcg64.from_slice.Statement.{statement}
+use Rattle.pcg.proofs.pcg64.Pcg64.from_slice.Tie as tie
 
 joined : (s : List ℕ) (i : ℕ) → little 8 s (i + 8) * 2 ^ 64 + little 8 s i ≡ little 16 s i
 joined s i = rw (little-joined 8 8 s i) (omega arith)
@@ -17,61 +18,45 @@ joined s i = rw (little-joined 8 8 s i) (omega arith)
 joined-odd : (s : List ℕ) (i : ℕ) → little 8 s (i + 8) * 2 ^ 64 + (little 8 s i / 2 * 2 + 1) ≡ lowBitSet (little 16 s i)
 joined-odd s i = rw (little-joined 8 8 s i) (omega arith)
 
-slice-aggregate-le-u64 : tie.Need-slice-aggregate-le-u64
-slice-aggregate-le-u64 c = search needs
-
 le-u64-requires : tie.Need-le-u64-requires
 le-u64-requires c κs = search needs
-
-slice-aggregate-le-u64-2 : tie.Need-slice-aggregate-le-u64-2
-slice-aggregate-le-u64-2 c = search needs
 
 le-u64-requires-2 : tie.Need-le-u64-requires-2
 le-u64-requires-2 c κs = search needs
 
-slice-aggregate-le-u64-3 : tie.Need-slice-aggregate-le-u64-3
-slice-aggregate-le-u64-3 c = search needs
-
 le-u64-requires-3 : tie.Need-le-u64-requires-3
 le-u64-requires-3 c κs = search needs
-
-slice-aggregate-le-u64-4 : tie.Need-slice-aggregate-le-u64-4
-slice-aggregate-le-u64-4 c = search needs
 
 le-u64-requires-4 : tie.Need-le-u64-requires-4
 le-u64-requires-4 c κs = search needs
 
-mul-t16 : tie.Need-mul-t16
-mul-t16 c = search needs
+mul-t7 : tie.Need-mul-t7
+mul-t7 c = search needs
 
-add-t17 : tie.Need-add-t17
-add-t17 c = search needs
+add-t8 : tie.Need-add-t8
+add-t8 c = search needs
 
 from-seed-stream-requires : tie.Need-from-seed-stream-requires
 from-seed-stream-requires c κs = search needs
 
 returns : tie.Need-returns
 returns c =
-    let s = c .before .before .before .before .before .before .before .before .before .args .t1 in
-    let first = c .before .before .before .before .before .before .before .le-u64 .ensures in
-    let second = c .before .before .before .before .before .le-u642 .ensures in
-    let third = c .before .before .before .le-u643 .ensures in
+    let s = now (c .before .before .before .before .before .before .args .seed) in
+    let first = c .before .before .before .before .le-u64 .ensures in
+    let second = c .before .before .before .le-u642 .ensures in
+    let third = c .before .before .le-u643 .ensures in
     let fourth = c .before .le-u644 .ensures in
     c .from-seed-stream .ensures ∙ rw (fourth, third, second, first) (ap₂ seeded (joined s 0) (joined-odd s 16))
 
-pub from-seed-spec : {M : Type 1} → statement M
-from-seed-spec =
+pub from-slice-spec : {M : Type 1} → statement M
+from-slice-spec =
     tie.close
     (tie.spec
-    slice-aggregate-le-u64
     le-u64-requires
-    slice-aggregate-le-u64-2
     le-u64-requires-2
-    slice-aggregate-le-u64-3
     le-u64-requires-3
-    slice-aggregate-le-u64-4
     le-u64-requires-4
-    mul-t16
-    add-t17
+    mul-t7
+    add-t8
     from-seed-stream-requires
     returns)
