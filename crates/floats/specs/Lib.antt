@@ -1,0 +1,10 @@
+-- What the float draws mean, over the whole numbers that a float is read as, with what is proved of it.
+pub mod Refusal
+pub mod Units
+pub mod DyadicLaws
+pub mod UnitLaws
+pub mod Chances
+pub mod ChanceLaws
+pub mod Intervals
+pub mod IntervalLaws
+pub mod Bench

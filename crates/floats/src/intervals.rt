@@ -1,0 +1,80 @@
+// A number of an interval: low + (high - low) * double, each operation rounded once.
+ghost use mathlib.Core.Path.{_≡_};
+ghost use lib.Ieee.Scale.{finite};
+ghost use Rattle.floats.specs.Intervals.{endsAreFinite, isOutOfOrder, intervalRefusal, numberIn, uniformOf};
+use super::refusal;
+use super::units::double_of;
+
+// A low end and a high end, kept together.
+#[repr(C)]
+pub struct Interval {
+    pub low: f64,
+    pub high: f64,
+}
+
+// The number drawn, or the refusal's number.
+pub enum Uniform {
+    Number(f64),
+    Refused(u32),
+}
+
+// Neither a NaN nor an infinity.
+fn is_finite(x: f64) -> bool
+    ensures { λ r. ⌜ r ≡ finite x ⌝ }
+{
+    let infinity = 1.0 / 0.0;
+    if x < infinity { -infinity < x } else { false }
+}
+
+pub fn ends_are_finite(i: Interval) -> bool
+    ensures { λ r. ⌜ r ≡ endsAreFinite i ⌝ }
+{
+    if is_finite(i.low) {
+        is_finite(i.high)
+    } else {
+        false
+    }
+}
+
+// -0.0 and 0.0 are level, so an interval between them is out of order.
+pub fn is_out_of_order(i: Interval) -> bool
+    ensures { λ r. ⌜ r ≡ isOutOfOrder i ⌝ }
+{
+    i.low >= i.high
+}
+
+// What a caller asks before it draws the word: 0 where the interval is taken. The first fault that there is gives the number.
+pub fn interval_refusal(i: Interval) -> u32
+    ensures { λ r. ⌜ r ≡ intervalRefusal i ⌝ }
+{
+    if !ends_are_finite(i) {
+        return refusal::NOT_FINITE;
+    }
+    if is_out_of_order(i) {
+        return refusal::ORDER;
+    }
+    if is_finite(i.high - i.low) {
+        0
+    } else {
+        refusal::NOT_FINITE
+    }
+}
+
+// The number that a word gives, for any two ends.
+pub fn number_in(i: Interval, word: u64) -> f64
+    ensures { λ r. ⌜ r ≡ numberIn i word ⌝ }
+{
+    i.low + (i.high - i.low) * double_of(word)
+}
+
+// The whole answer: the number where the interval is taken, and the refusal's number where it is not.
+pub fn uniform_of(i: Interval, word: u64) -> Uniform
+    ensures { λ r. ⌜ r ≡ uniformOf i word ⌝ }
+{
+    let refused = interval_refusal(i);
+    if refused == 0 {
+        Uniform::Number(number_in(i, word))
+    } else {
+        Uniform::Refused(refused)
+    }
+}
