@@ -1,112 +1,76 @@
--- What the code's comparisons of a float with 0, 1 and the infinities say of it. Assumes nothing.
-use mathlib.Core.Path.{_≡_, refl, sym, ap, _∙_, subst}
+-- What follows of `bool`'s definitions: a chance is a p with 0 ≤ p ≤ 1, and the refusal is 3 exactly where p is NaN, below 0 or above
+-- 1 (document 01, "When the unit says no"). The order is IEEE 754's, over the whole numbers.
+-- Assumes nothing.
+use mathlib.Core.Path.{_≡_, refl, sym, ap, _∙_}
 use mathlib.Core.Logic.{_⊎_, inl, inr}
-use Prim.Native.Nat.{ℕ, zero, suc, _+_, _*_, _≤_, _<_}
-use native.Mathlib.Nat.{le-of-eq, le-of-lt, eq-or-lt-of-le, lt-of-lt-of-le, lt-irrefl, mul-one, one-mul, zero-mul, mul-pos, zero-lt-suc, eq-of-mul-eq-mul-right}
+use Prim.Native.Nat.{ℕ}
 use native.Mathlib.Omega.{arith}
-use mathlib.Core.Bool.{Bool, true, false, not, _&&_, _||_, true≢false, false≢true}
-use lib.Dec.{T, ltb, leb, eqb, ltb→lt, lt→ltb, leb→le, le→leb, eqb→eq}
-use lib.Ieee.{Float, nan, inf, fin, up, down, lt, le}
-use lib.Ieee.Fits.{up-pos, down-pos, eq→eqb, and-l, and-i}
-use lib.Ieee.Bits.{is-true, is-false}
-use lib.Ieee.Scale.{finite}
-use borrow.Author.Tests.{le-leb, lt-leb, lt-ltb, eq-eqb, ne-eqb}
-use lib.IntN.{ℤ, pos}
-use Rattle.floats.specs.Chances.{isChance}
+use mathlib.Core.Bool.{Bool, true, false, not, _&&_, cond, Bool·not-not, and-true, false≢true}
+use borrow.Author.Tests.{not-true}
+use lib.Ieee.{Float, nan, inf, fin, lt, le, isNan}
+use Rattle.floats.specs.Refusal.{chance}
+use Rattle.floats.specs.Units.{doubleOf}
+use Rattle.floats.specs.Chances.{isChance, chanceRefusal, coinOf}
+use Rattle.floats.specs.OrderLaws.{zeroFloat, oneFloat, total, negative-below-zero, positive-not-below-zero, negative-not-above-one, one-below}
+use Rattle.floats.specs.declared.chances.Coin.{Coin}
 
--- ---- finite: below the one infinity and above the other
-pub below-infinity : (x : Float) → lt x (inf false) ≡ true → lt (inf true) x ≡ finite x
-unfolding lt
-below-infinity nan t = refl
-below-infinity (inf true) t = refl
-below-infinity (inf false) t = absurd (false≢true t)
-below-infinity (fin s m e) t = refl
-
-pub not-below-infinity : (x : Float) → lt x (inf false) ≡ false → false ≡ finite x
-unfolding lt
-not-below-infinity nan t = refl
-not-below-infinity (inf s) t = refl
-not-below-infinity (fin s m e) t = absurd (true≢false t)
-
--- ---- two tests that pass together are equal
-pub same-test : (a b : Bool) → (T a → T b) → (T b → T a) → a ≡ b
-same-test true true f g = refl
-same-test true false f g = absurd (f tt)
-same-test false true f g = absurd (g tt)
-same-test false false f g = refl
-
-or-l : (a b : Bool) → T a → T (a || b)
-or-l true b t = tt
-or-l false b t = absurd t
-
-or-r : (a b : Bool) → T b → T (a || b)
-or-r true b t = tt
-or-r false b t = t
-
-or-split : (a b : Bool) → T (a || b) → T a ⊎ T b
-or-split true b t = inl tt
-or-split false b t = inr t
-
-with-true : (a : Bool) → T a → T (a && true)
-with-true true t = tt
-with-true false t = t
-
--- `le` of two numbers that are not negative, as one test
-pub le-test : (a b : ℕ) → (ltb a b || (eqb a b && true)) ≡ leb a b
-le-test a b = same-test (ltb a b || (eqb a b && true)) (leb a b) (λ t. le→leb a b (from (or-split (ltb a b) (eqb a b && true) t))) (λ t. to (eq-or-lt-of-le (leb→le a b t)))
-  where
-    from : T (ltb a b) ⊎ T (eqb a b && true) → a ≤ b
-    from (inl t) = le-of-lt (ltb→lt a b t)
-    from (inr t) = le-of-eq (eqb→eq a b (and-l (eqb a b) true t))
-
-    to : (a ≡ b) ⊎ (a < b) → T (ltb a b || (eqb a b && true))
-    to (inl e) = or-r (ltb a b) (eqb a b && true) (with-true (eqb a b) (eq→eqb e))
-    to (inr l) = or-l (ltb a b) (eqb a b && true) (lt→ltb a b l)
-
--- ---- from 0 to 1
-abbrev zero-float : Float
-zero-float = fin false 0 (pos 0)
-
-abbrev one-float : Float
-one-float = fin false 1 (pos 0)
-
-zero-size : (m : ℕ) (e : ℤ) → m * up e * 1 ≡ 0 → m ≡ 0
-zero-size m e h = eq-of-mul-eq-mul-right (up e) (up-pos e) m 0 (sym (mul-one (m * up e)) ∙ h ∙ sym (zero-mul (up e)))
-
--- 0 ≤ -m * 2 ^ e where m is 0
-zero-le-negative : (m : ℕ) (e : ℤ) → le zero-float (fin true m e) ≡ eqb m 0
-unfolding le
-zero-le-negative m e =
-    same-test (eqb (0 * 1 * down e) (m * up e * 1) && (false || eqb (0 * 1 * down e) 0)) (eqb m 0)
-    (λ t. eq→eqb (zero-size m e (sym (eqb→eq (0 * 1 * down e) (m * up e * 1) (and-l (eqb (0 * 1 * down e) (m * up e * 1)) (false || eqb (0 * 1 * down e) 0) t)) ∙ zero-mul (down e))))
-    (λ t. subst (λ (n : ℕ). T (eqb (0 * 1 * down e) (n * up e * 1) && (false || eqb (0 * 1 * down e) 0))) (sym (eqb→eq m 0 t))
-    (and-i (eqb (0 * 1 * down e) (0 * up e * 1)) (eqb (0 * 1 * down e) 0) (eq→eqb (zero-mul (down e) ∙ sym (ap (λ (z : ℕ). z * 1) (zero-mul (up e))))) (eq→eqb (zero-mul (down e)))))
-
-zero-le-positive : (m : ℕ) (e : ℤ) → le zero-float (fin false m e) ≡ true
-unfolding le
-zero-le-positive m e = le-test (0 * 1 * down e) (m * up e * 1) ∙ le-leb (0 * 1 * down e) (m * up e * 1) (subst (λ (z : ℕ). z ≤ m * up e * 1) (sym (zero-mul (down e))) (lib≤ (m * up e * 1)))
-  where
-    lib≤ : (n : ℕ) → 0 ≤ n
-    lib≤ n = omega arith
-
-negative-le-one : (m : ℕ) (e : ℤ) → le (fin true m e) one-float ≡ true
-unfolding le
-negative-le-one m e = is-true (le (fin true m e) one-float) (or-l (ltb 0 (m * up e * 1 + 1 * 1 * down e)) (eqb (m * up e * 1) (1 * 1 * down e) && (false || eqb (m * up e * 1) 0)) (lt→ltb 0 (m * up e * 1 + 1 * 1 * down e) (more (m * up e * 1) (1 * 1 * down e) (mul-pos (zero-lt-suc 0) (down-pos e)))))
-  where
-    more : (a b : ℕ) → 0 < b → 0 < a + b
-    more a b h = omega arith
-
-pub at-least-zero : (p : Float) → le zero-float p ≡ true → le p one-float ≡ isChance p
-unfolding le isChance
-at-least-zero nan t = refl
-at-least-zero (inf true) t = absurd (false≢true t)
-at-least-zero (inf false) t = refl
-at-least-zero (fin true m e) t = negative-le-one m e ∙ sym t ∙ zero-le-negative m e
-at-least-zero (fin false m e) t = le-test (m * up e * 1) (1 * 1 * down e) ∙ ap (λ (z : ℕ). leb z (1 * 1 * down e)) (mul-one (m * up e)) ∙ ap (λ (z : ℕ). leb (m * up e) z) (one-mul (down e))
-
-pub not-at-least-zero : (p : Float) → le zero-float p ≡ false → false ≡ isChance p
+-- ---- the code's two tests
+pub is-chance-tests : (p : Float) → isChance p ≡ (le zeroFloat p && le p oneFloat)
 unfolding isChance
-not-at-least-zero nan t = refl
-not-at-least-zero (inf s) t = refl
-not-at-least-zero (fin true m e) t = sym t ∙ zero-le-negative m e
-not-at-least-zero (fin false m e) t = absurd (true≢false (sym (zero-le-positive m e) ∙ t))
+is-chance-tests nan = unfold le in refl
+is-chance-tests (inf true) = unfold le in refl
+is-chance-tests (inf false) = unfold le in refl
+is-chance-tests (fin true m e) =
+    let p = fin true m e in
+    rw (total p zeroFloat refl refl, total oneFloat p refl refl, negative-below-zero m e, negative-not-above-one m e, and-true, Bool·not-not)
+is-chance-tests (fin false m e) =
+    let p = fin false m e in
+    rw (total p zeroFloat refl refl, total oneFloat p refl refl, positive-not-below-zero m e, one-below m e, Bool·not-not)
+
+-- ---- the refusal, both ways
+-- NaN, below 0 or above 1
+abbrev pub Outside : Float → Type 0
+Outside p = (isNan p ≡ true) ⊎ (lt p zeroFloat ≡ true) ⊎ (lt oneFloat p ≡ true)
+
+no-chance : (p : Float) → isChance p ≡ false → Outside p
+unfolding isChance
+no-chance nan h = inl (unfold isNan in refl)
+no-chance (inf true) h = inr (inl (unfold lt in refl))
+no-chance (inf false) h = inr (inr (unfold lt in refl))
+no-chance (fin true m e) h = inr (inl (negative-below-zero m e ∙ ap not h))
+no-chance (fin false m e) h = inr (inr (one-below m e ∙ ap not h))
+
+outside : (p : Float) → Outside p → isChance p ≡ false
+unfolding isChance isNan
+outside nan o = refl
+outside (inf s) o = refl
+outside (fin s m e) (inl q) = absurd (false≢true q)
+outside (fin true m e) (inr (inl q)) = not-true _ (sym (negative-below-zero m e) ∙ q)
+outside (fin true m e) (inr (inr q)) = absurd (false≢true (sym (negative-not-above-one m e) ∙ q))
+outside (fin false m e) (inr (inl q)) = absurd (false≢true (sym (positive-not-below-zero m e) ∙ q))
+outside (fin false m e) (inr (inr q)) = not-true _ (sym (one-below m e) ∙ q)
+
+no-refusal : (b : Bool) → cond b 0 chance ≡ 0 → b ≡ true
+no-refusal true h = refl
+no-refusal false h = absurd (omega arith)
+
+refusal : (b : Bool) → cond b 0 chance ≡ chance → b ≡ false
+refusal true h = absurd (omega arith)
+refusal false h = refl
+
+pub chance-refused : (p : Float) → (chanceRefusal p ≡ chance → Outside p) × (Outside p → chanceRefusal p ≡ chance)
+chance-refused p = (λ h. no-chance p (refusal (isChance p) h), λ o. rw (outside p o))
+
+pub chance-taken : (p : Float) → (chanceRefusal p ≡ 0 → (le zeroFloat p && le p oneFloat) ≡ true) × ((le zeroFloat p && le p oneFloat) ≡ true → chanceRefusal p ≡ 0)
+chance-taken p = (λ h. sym (is-chance-tests p) ∙ no-refusal (isChance p) h, λ h. rw (is-chance-tests p ∙ h))
+
+-- ---- the coin by the refusal, which no word has a part in
+pub coin-taken : (p : Float) (word : ℕ) → chanceRefusal p ≡ 0 → coinOf p word ≡ record { refusal = 0; value = lt (doubleOf word) p }
+coin-taken p word h = rw (no-refusal (isChance p) h)
+
+pub coin-refused : (p : Float) (word : ℕ) → (chanceRefusal p ≡ 0 → ⊥) → coinOf p word ≡ record { refusal = chance; value = false }
+coin-refused p word h = go (isChance p) refl
+  where
+    go : (b : Bool) → isChance p ≡ b → coinOf p word ≡ record { refusal = chance; value = false }
+    go true e = absurd (h (rw e))
+    go false e = rw e

@@ -3,6 +3,7 @@ pub mod Refusal
 pub mod Units
 pub mod DyadicLaws
 pub mod UnitLaws
+pub mod OrderLaws
 pub mod Chances
 pub mod ChanceLaws
 pub mod Intervals

@@ -1,16 +1,16 @@
 -- `is_chance` meets its contract. Assumes nothing.
 use lib.Ieee.{ofBits}
-use Rattle.floats.specs.ChanceLaws.{at-least-zero, not-at-least-zero}
+use Rattle.floats.specs.ChanceLaws.{is-chance-tests}
 use Rattle.floats.proofs.chances.is_chance.Statement.{statement}
 use Rattle.floats.proofs.chances.is_chance.Tie as tie
 
 returns : tie.Need-returns
 unfolding ofBits
-returns c = at-least-zero (c .before .args .p) (c .if1 .taken)
+returns c = rw (is-chance-tests (c .before .args .p), c .if1 .taken)
 
 returns-2 : tie.Need-returns-2
 unfolding ofBits
-returns-2 c = not-at-least-zero (c .before .args .p) (c .if1 .left)
+returns-2 c = rw (is-chance-tests (c .before .args .p), c .if1 .left)
 
 pub is-chance-spec : {M : Type 1} → statement M
 is-chance-spec = tie.close (tie.spec returns returns-2)

@@ -1,16 +1,16 @@
 -- `is_finite` meets its contract: the code compares with both infinities, which it makes as 1 / 0. Assumes nothing.
 use lib.Ieee.{ofBits, div, neg}
-use Rattle.floats.specs.ChanceLaws.{below-infinity, not-below-infinity}
+use Rattle.floats.specs.OrderLaws.{finite-tests}
 use Rattle.floats.proofs.intervals.is_finite.Statement.{statement}
 use Rattle.floats.proofs.intervals.is_finite.Tie as tie
 
 returns : tie.Need-returns
 unfolding ofBits div neg
-returns c = below-infinity (c .before .args .x) (c .if1 .taken)
+returns c = rw (finite-tests (c .before .args .x), c .if1 .taken)
 
 returns-2 : tie.Need-returns-2
 unfolding ofBits div neg
-returns-2 c = not-below-infinity (c .before .args .x) (c .if1 .left)
+returns-2 c = rw (finite-tests (c .before .args .x), c .if1 .left)
 
 pub is-finite-spec : {M : Type 1} → statement M
 is-finite-spec = tie.close (tie.spec returns returns-2)
