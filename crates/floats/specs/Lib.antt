@@ -4,6 +4,7 @@ pub mod Units
 pub mod DyadicLaws
 pub mod UnitLaws
 pub mod OrderLaws
+pub mod FiniteLaws
 pub mod Chances
 pub mod ChanceLaws
 pub mod Intervals

@@ -1,5 +1,5 @@
--- IEEE 754's comparisons, by the whole numbers: among finite floats `le y x` is the opposite of `lt x y`, and what the tests with 0,
--- with 1 and with the infinities say.
+-- IEEE 754's comparisons, by the whole numbers: among finite floats `le y x` is the opposite of `lt x y`, and what the tests with 0
+-- and with 1 say.
 -- Assumes nothing.
 use mathlib.Core.Path.{_≡_, refl, sym, ap, _∙_}
 use mathlib.Core.Logic.{_⊎_, inl, inr, ⊎-elim}
@@ -112,11 +112,3 @@ one-below m e = rw (one-mul (down e), mul-one (m * up e)) (over (down e) (m * up
   where
     over : (a b : ℕ) → ltb a b ≡ not (leb b a)
     over a b = ⊎-elim (λ h. rw (lt-ltb a b h, lt-leb b a h)) (λ h. rw (le-ltb a b h, le-leb b a h)) (lt-or-le a b)
-
--- ---- finite: below the one infinity and above the other
-pub finite-tests : (x : Float) → finite x ≡ (lt x (inf false) && lt (inf true) x)
-unfolding lt
-finite-tests nan = refl
-finite-tests (inf true) = refl
-finite-tests (inf false) = refl
-finite-tests (fin s m e) = refl

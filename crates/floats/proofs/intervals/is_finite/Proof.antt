@@ -1,6 +1,6 @@
 -- `is_finite` meets its contract: the code compares with both infinities, which it makes as 1 / 0. Assumes nothing.
 use lib.Ieee.{ofBits, div, neg}
-use Rattle.floats.specs.OrderLaws.{finite-tests}
+use Rattle.floats.specs.FiniteLaws.{finite-tests}
 use Rattle.floats.proofs.intervals.is_finite.Statement.{statement}
 use Rattle.floats.proofs.intervals.is_finite.Tie as tie
 
