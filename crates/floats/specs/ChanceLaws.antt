@@ -2,7 +2,7 @@
 -- 1 (document 01, "When the unit says no"). The order is IEEE 754's, over the whole numbers.
 -- Assumes nothing.
 use mathlib.Core.Path.{_≡_, refl, sym, ap, _∙_}
-use mathlib.Core.Logic.{_⊎_, inl, inr}
+use mathlib.Core.Logic.{_↔_, _⊎_, inl, inr}
 use Prim.Native.Nat.{ℕ}
 use native.Mathlib.Omega.{arith}
 use mathlib.Core.Bool.{Bool, true, false, not, _&&_, cond, Bool·not-not, and-true, false≢true}
@@ -58,10 +58,10 @@ refusal : (b : Bool) → cond b 0 chance ≡ chance → b ≡ false
 refusal true h = absurd (omega arith)
 refusal false h = refl
 
-pub chance-refused : (p : Float) → (chanceRefusal p ≡ chance → Outside p) × (Outside p → chanceRefusal p ≡ chance)
+pub chance-refused : (p : Float) → (chanceRefusal p ≡ chance) ↔ Outside p
 chance-refused p = (λ h. no-chance p (refusal (isChance p) h), λ o. rw (outside p o))
 
-pub chance-taken : (p : Float) → (chanceRefusal p ≡ 0 → (le zeroFloat p && le p oneFloat) ≡ true) × ((le zeroFloat p && le p oneFloat) ≡ true → chanceRefusal p ≡ 0)
+pub chance-taken : (p : Float) → (chanceRefusal p ≡ 0) ↔ ((le zeroFloat p && le p oneFloat) ≡ true)
 chance-taken p = (λ h. sym (is-chance-tests p) ∙ no-refusal (isChance p) h, λ h. rw (is-chance-tests p ∙ h))
 
 -- ---- the coin by the refusal, which no word has a part in

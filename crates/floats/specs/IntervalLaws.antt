@@ -2,10 +2,10 @@
 -- that no word has a part in them.
 -- Assumes nothing.
 use mathlib.Core.Path.{_≡_, refl, sym, ap, _∙_}
-use mathlib.Core.Logic.{_⊎_, inl, inr}
+use mathlib.Core.Logic.{_↔_, _⊎_, inl, inr}
 use Prim.Native.Nat.{ℕ, zero, suc}
 use native.Mathlib.Omega.{arith}
-use mathlib.Core.Bool.{Bool, true, false, not, _&&_, cond, Bool·not-not, false≢true}
+use mathlib.Core.Bool.{Bool, true, false, not, _&&_, cond, Bool·not-not, and-false, false≢true}
 use lib.Ieee.{Float, binary64, sub, lt, le}
 use lib.Ieee.Scale.{finite}
 use Rattle.floats.specs.Refusal.{order, notFinite}
@@ -65,10 +65,6 @@ either : (a b : Bool) → (a && b) ≡ false → (a ≡ false) ⊎ (b ≡ false)
 either true b h = inr h
 either false b h = inl refl
 
-and-false : (a : Bool) → (a && false) ≡ false
-and-false true = refl
-and-false false = refl
-
 -- ---- the refusals, both ways
 -- 2: both ends are finite, and low ≥ high
 abbrev pub OutOfOrder : Interval → Type 0
@@ -86,7 +82,7 @@ module _ (i : Interval) where
   ends : finite (i .low) ≡ true → finite (i .high) ≡ true → endsAreFinite i ≡ true
   ends p q = rw (p, q)
 
-  pub order-iff : (intervalRefusal i ≡ order → OutOfOrder i) × (OutOfOrder i → intervalRefusal i ≡ order)
+  pub order-iff : (intervalRefusal i ≡ order) ↔ OutOfOrder i
   unfolding intervalRefusal
   order-iff = (
     λ h.
@@ -96,7 +92,7 @@ module _ (i : Interval) where
     λ h. order-refused i (ends (h .0) (h .1)) (h .2),
   )
 
-  pub taken-iff : (intervalRefusal i ≡ 0 → Taken i) × (Taken i → intervalRefusal i ≡ 0)
+  pub taken-iff : (intervalRefusal i ≡ 0) ↔ Taken i
   unfolding intervalRefusal
   taken-iff = (
     λ h.
@@ -106,7 +102,7 @@ module _ (i : Interval) where
     λ h. accepted i (ends (h .0) (h .1)) (total (i .low) (i .high) (h .0) (h .1) ∙ ap not (h .2)) (h .3),
   )
 
-  pub not-finite-iff : (intervalRefusal i ≡ notFinite → OutOfRange i) × (OutOfRange i → intervalRefusal i ≡ notFinite)
+  pub not-finite-iff : (intervalRefusal i ≡ notFinite) ↔ OutOfRange i
   unfolding intervalRefusal
   not-finite-iff = (λ h. there (of-not-finite (endsAreFinite i) (isOutOfOrder i) (finite (width i)) h), back)
     where

@@ -6,7 +6,7 @@ use mathlib.Core.Logic.{_⊎_, inl, inr, ⊎-elim}
 use Prim.Native.Nat.{ℕ, zero, suc, _+_, _*_, _≤_, _<_, zero-le}
 use native.Mathlib.Nat.{zero-lt-suc, le-of-lt, le-of-eq, eq-or-lt-of-le, eq-zero-or-pos, mul-one, one-mul, zero-mul, mul-pos}
 use native.Mathlib.Omega.{arith}
-use mathlib.Core.Bool.{Bool, true, false, not, _&&_, _||_, false≢true}
+use mathlib.Core.Bool.{Bool, true, false, not, _&&_, _||_, and-false, false≢true}
 use borrow.Author.Tests.{lt-ltb, le-ltb, le-leb, lt-leb, eq-eqb, ne-eqb}
 use lib.IntN.{ℤ, pos}
 use lib.Dec.{T, ltb, leb, eqb, ltb→lt, nltb→le}
@@ -57,11 +57,11 @@ negative-first a b = ⊎-elim (λ z. none a b z) (λ h. some a b h) (eq-zero-or-
         rw (p, q)
 
     some : (a b : ℕ) → 0 < a + b → (eqb b a && (false || eqb b 0)) ≡ not (ltb 0 (a + b))
-    some a b h = ⊎-elim (λ z. rw (lt-ltb 0 (a + b) h, ne-eqb b a (λ e. omega arith))) (λ k. rw (lt-ltb 0 (a + b) h, ne-eqb b 0 (λ e. omega arith)) (clear (eqb b a))) (eq-zero-or-pos b)
-      where
-        clear : (t : Bool) → (t && false) ≡ false
-        clear true = refl
-        clear false = refl
+    some a b h =
+        ⊎-elim
+        (λ z. rw (lt-ltb 0 (a + b) h, ne-eqb b a (λ e. omega arith)))
+        (λ k. rw (lt-ltb 0 (a + b) h, ne-eqb b 0 (λ e. omega arith), and-false))
+        (eq-zero-or-pos b)
 
 -- ---- at least: not below
 pub total : (x y : Float) → finite x ≡ true → finite y ≡ true → le y x ≡ not (lt x y)
