@@ -64,7 +64,10 @@ pub fn interval_refusal(i: Interval) -> u32
 pub fn number_in(i: Interval, word: u64) -> f64
     ensures { λ r. ⌜ r ≡ numberIn i word ⌝ }
 {
-    i.low + (i.high - i.low) * double_of(word)
+    let low = i.low;
+    let high = i.high;
+    let d = double_of(word);
+    low + (high - low) * d
 }
 
 // The whole answer: the number where the interval is taken, and the refusal's number where it is not.

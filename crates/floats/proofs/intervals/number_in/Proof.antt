@@ -9,7 +9,7 @@ double-of-requires c κs = search needs
 
 returns : tie.Need-returns
 unfolding numberIn
-returns c = rw (c .before .double-of .ensures)
+returns c = rw (c .double-of .ensures)
 
 pub number-in-spec : {M : Type 1} → statement M
 number-in-spec = tie.close (tie.spec double-of-requires returns)
