@@ -11,7 +11,8 @@ use lib.Ieee.{Float, nan, inf, fin, lt, le, isNan}
 use Rattle.floats.specs.Refusal.{chance}
 use Rattle.floats.specs.Units.{doubleOf}
 use Rattle.floats.specs.Chances.{isChance, chanceRefusal, coinOf}
-use Rattle.floats.specs.OrderLaws.{zeroFloat, oneFloat, total, negative-below-zero, positive-not-below-zero, negative-not-above-one, one-below}
+use Rattle.floats.specs.OrderLaws.{zeroFloat, oneFloat, total}
+use Rattle.floats.specs.OrderLaws.{negative-below-zero, positive-not-below-zero, negative-not-above-one, one-below}
 use Rattle.floats.specs.declared.chances.Coin.{Coin}
 
 -- ---- the code's two tests
@@ -22,7 +23,8 @@ is-chance-tests (inf true) = unfold le in refl
 is-chance-tests (inf false) = unfold le in refl
 is-chance-tests (fin true m e) =
     let p = fin true m e in
-    rw (total p zeroFloat refl refl, total oneFloat p refl refl, negative-below-zero m e, negative-not-above-one m e, and-true, Bool·not-not)
+    let below = negative-below-zero m e in
+    rw (total p zeroFloat refl refl, total oneFloat p refl refl, below, negative-not-above-one m e, and-true, Bool·not-not)
 is-chance-tests (fin false m e) =
     let p = fin false m e in
     rw (total p zeroFloat refl refl, total oneFloat p refl refl, positive-not-below-zero m e, one-below m e, Bool·not-not)

@@ -1,16 +1,16 @@
 -- The float that is n / 2 ^ k, in any format: there is one such float (`one-such`), `dyadic n k` is it (`dyadic-exact`), and a whole number
 -- cast to a float and multiplied by a power of two gives it, both exactly (`exact-draw`).
 -- Assumes nothing.
-use mathlib.Core.Path.{_≡_, refl, sym, ap, _∙_, subst}
+use mathlib.Core.Path.{_≡_, refl, sym, ap, _∙_}
 use Prim.Native.Nat.{ℕ, zero, suc, _+_, _-_, _*_, _/_, _%_, _^_, _≤_, _<_}
-use native.Mathlib.Nat.{le-of-lt, lt-of-lt-of-le, lt-of-le-of-lt, zero-lt-suc, mul-one, one-mul, mul-comm, mul-assoc, mul-right-comm, mul-mul-mul-comm}
-use native.Mathlib.Nat.{mul-pos, mul-le-mul-right, eq-of-mul-eq-mul-right, div-lt-iff-lt-mul, pow-suc}
+use native.Mathlib.Nat.{le-of-lt, lt-of-lt-of-le, lt-of-le-of-lt, zero-lt-suc, mul-one, one-mul, mul-comm, mul-assoc}
+use native.Mathlib.Nat.{mul-right-comm, mul-mul-mul-comm, mul-pos, mul-le-mul-right, eq-of-mul-eq-mul-right, div-lt-iff-lt-mul, pow-suc}
 use native.Mathlib.Omega.{arith}
-use mathlib.Core.Bool.{Bool, true, false, not, _&&_, cond, true≢false}
+use mathlib.Core.Bool.{Bool, true, false, _&&_, cond, true≢false}
 use lib.IntN.{ℤ, pos, negsuc}
 use lib.Dec.{T, ltb, leb, eqb, eqb→eq, lt→ltb, le→leb}
 use lib.Pow.{pow-add, pow-pos, pow-mono, shl-lt}
-use lib.Ieee.{Float, nan, inf, fin, Format, prec, emax, low, up, down, size, hid, top, round, mul, ofInt, fits, toBits, ofBits}
+use lib.Ieee.{Float, nan, inf, fin, Format, prec, emax, low, up, down, size, hid, top, round, mul, ofInt, inFloat, fits, toBits, ofBits}
 use lib.Ieee.Bits.{ofBits-toBits}
 use lib.Ieee.Digits.{back}
 use lib.Ieee.Fits.{and-i, eq→eqb, down-pos, reach, mul-fits}
@@ -66,7 +66,10 @@ half-lt : (n k : ℕ) → n < 2 ^ suc k → n / 2 < 2 ^ k
 half-lt n k h = div-lt-iff-lt-mul (zero-lt-suc 1) .1 (rw pow-suc at h)
 
 twice : (n k : ℕ) → n % 2 ≡ 0 → n * 2 ^ k ≡ n / 2 * 2 ^ suc k
-twice n k e = ap (λ (z : ℕ). z * 2 ^ k) (even n e) ∙ mul-assoc (n / 2) 2 (2 ^ k) ∙ ap (λ (z : ℕ). n / 2 * z) (mul-comm 2 (2 ^ k) ∙ sym (pow-suc 2 k))
+twice n k e =
+    ap (λ (z : ℕ). z * 2 ^ k) (even n e)
+    ∙ mul-assoc (n / 2) 2 (2 ^ k)
+    ∙ ap (λ (z : ℕ). n / 2 * z) (mul-comm 2 (2 ^ k) ∙ sym (pow-suc 2 k))
   where
     even : (n : ℕ) → n % 2 ≡ 0 → n ≡ n / 2 * 2
     even n e = omega arith
@@ -106,7 +109,8 @@ pub dyadic-fits : (f : Format) (n k : ℕ) → n < 2 ^ k → n < 2 ^ prec f → 
 unfolding dyadic
 dyadic-fits f n zero h p l = unfold fits in tt
 dyadic-fits f n (suc k) h p l =
-    go (eqb (n % 2) 0) (λ (t : n % 2 ≡ 0). eq→eqb t) (dyadic-fits f (n / 2) k (half-lt n k h) (lt-of-le-of-lt (half-le n) p) (short k (low f) l))
+    go (eqb (n % 2) 0) (λ (t : n % 2 ≡ 0). eq→eqb t)
+    (dyadic-fits f (n / 2) k (half-lt n k h) (lt-of-le-of-lt (half-le n) p) (short k (low f) l))
   where
     half-le : (n : ℕ) → n / 2 ≤ n
     half-le n = omega arith
@@ -125,6 +129,10 @@ pub dyadic-exact : (f : Format) (n k : ℕ) → n < 2 ^ k → n < 2 ^ prec f →
 dyadic-exact f n k h p l = record { held = dyadic-fits f n k h p l; value = dyadic-value n k h }
 
 -- ---- the draw: a whole number n as a float, times 2 ^ -(k + 1)
+pub cast-exact : (f : Format) (n : ℕ) → n < 2 ^ prec f → T (inFloat f (pos n))
+unfolding inFloat
+cast-exact f n h = le→leb n (2 ^ prec f) (le-of-lt h)
+
 -- n * 2 ^ j of the format's smallest value is below the overflow
 room : (f : Format) (n j : ℕ) → n < 2 ^ prec f → j ≤ low f → n * 2 ^ j < 2 ^ (low f + suc (emax f))
 room f n j p h = lt-of-lt-of-le (shl-lt (prec f) j p) (pow-mono (add-both (prec f) j (low f) (suc (emax f)) (reach f) h))
@@ -160,4 +168,7 @@ unfolding ofInt
 exact-draw f n k p h l =
     let cast = ofInt f (pos n) in
     let unit = fin false 1 (negsuc k) in
-    one-such (record { held = mul-fits f cast unit; value = exact-product f cast n k (round-whole f false n (le-of-lt p)) p l }) (dyadic-exact f n (suc k) h p l)
+    let cast-value = round-whole f false n (le-of-lt p) in
+    one-such
+    (record { held = mul-fits f cast unit; value = exact-product f cast n k cast-value p l })
+    (dyadic-exact f n (suc k) h p l)

@@ -6,7 +6,7 @@ use mathlib.Core.Logic.{_↔_, _⊎_, inl, inr}
 use Prim.Native.Nat.{ℕ, zero, suc}
 use native.Mathlib.Omega.{arith}
 use mathlib.Core.Bool.{Bool, true, false, not, _&&_, cond, Bool·not-not, and-false, false≢true}
-use lib.Ieee.{Float, binary64, sub, lt, le}
+use lib.Ieee.{Float, binary64, lt, le}
 use lib.Ieee.Scale.{finite}
 use Rattle.floats.specs.Refusal.{order, notFinite}
 use Rattle.floats.specs.Intervals.{endsAreFinite, isOutOfOrder, width, intervalRefusal, numberIn, answered, uniformOf, refusalOf}
@@ -65,18 +65,18 @@ either : (a b : Bool) → (a && b) ≡ false → (a ≡ false) ⊎ (b ≡ false)
 either true b h = inr h
 either false b h = inl refl
 
--- ---- the refusals, both ways
+-- ---- the refusals, both ways, and no others
 -- 2: both ends are finite, and low ≥ high
 abbrev pub OutOfOrder : Interval → Type 0
 OutOfOrder i = (finite (i .low) ≡ true) × (finite (i .high) ≡ true) × (le (i .high) (i .low) ≡ true)
 
 -- 7: an end is NaN or infinite; or low ≥ high does not hold, and high - low overflows
 abbrev pub OutOfRange : Interval → Type 0
-OutOfRange i = NotFinite (i .low) ⊎ NotFinite (i .high) ⊎ ((le (i .high) (i .low) ≡ false) × Infinite (sub binary64 (i .high) (i .low)))
+OutOfRange i = NotFinite (i .low) ⊎ NotFinite (i .high) ⊎ ((le (i .high) (i .low) ≡ false) × Infinite (width i))
 
 -- none: both ends are finite, low < high, and high - low does not overflow
 abbrev pub Taken : Interval → Type 0
-Taken i = (finite (i .low) ≡ true) × (finite (i .high) ≡ true) × (lt (i .low) (i .high) ≡ true) × (finite (sub binary64 (i .high) (i .low)) ≡ true)
+Taken i = (finite (i .low) ≡ true) × (finite (i .high) ≡ true) × (lt (i .low) (i .high) ≡ true) × (finite (width i) ≡ true)
 
 module _ (i : Interval) where
   ends : finite (i .low) ≡ true → finite (i .high) ≡ true → endsAreFinite i ≡ true
@@ -123,6 +123,16 @@ module _ (i : Interval) where
       back (inl p) = ends-refused i (rw (never-finite (i .low) p))
       back (inr (inl p)) = ends-refused i (rw (never-finite (i .high) p) (and-false (finite (i .low))))
       back (inr (inr p)) = by-ends (endsAreFinite i) refl (p .0) (never-finite (width i) (inr (p .1)))
+
+  pub no-others : (intervalRefusal i ≡ 0) ⊎ (intervalRefusal i ≡ order) ⊎ (intervalRefusal i ≡ notFinite)
+  unfolding intervalRefusal
+  no-others = go (endsAreFinite i) (isOutOfOrder i) (finite (width i))
+    where
+      go : (e o w : Bool) → (first e o w ≡ 0) ⊎ (first e o w ≡ order) ⊎ (first e o w ≡ notFinite)
+      go false o w = inr (inr refl)
+      go true true w = inr (inl refl)
+      go true false false = inr (inr refl)
+      go true false true = inl refl
 
 -- ---- the answer by the refusal, which no word has a part in
 pub answered-refused : (k : ℕ) (v : Float) → (k ≡ 0 → ⊥) → answered k v ≡ Refused k

@@ -28,8 +28,8 @@ double-exact word h = dyadic-exact binary64 (word / 2 ^ 11) 53 (high-bits word h
 
 dyadic-le : (n m k : ℕ) → n ≤ m → m < 2 ^ k → T (le (dyadic n k) (dyadic m k))
 dyadic-le n m k h M =
-    le-of-values (dyadic n k) (dyadic m k) n (2 ^ k) m (2 ^ k) (pow-pos k) (pow-pos k) (dyadic-value n k (lt-of-le-of-lt h M)) (dyadic-value m k M)
-    (mul-le-mul-right (2 ^ k) h)
+    le-of-values (dyadic n k) (dyadic m k) n (2 ^ k) m (2 ^ k) (pow-pos k) (pow-pos k)
+    (dyadic-value n k (lt-of-le-of-lt h M)) (dyadic-value m k M) (mul-le-mul-right (2 ^ k) h)
 
 -- `double` is never above 1 - 2^-53, which is (2^53 - 1) * 2^-53
 pub double-never-above : (word : ℕ) → word < 2 ^ 64 → T (le (doubleOf word) (fin false (2 ^ 53 - 1) (negsuc 52)))

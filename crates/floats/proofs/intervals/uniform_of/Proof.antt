@@ -1,5 +1,5 @@
 -- `uniform_of` meets its contract. Assumes nothing.
-use mathlib.Core.Path.{sym, _∙_, ap}
+use mathlib.Core.Path.{sym, _∙_}
 use borrow.Author.Needs.{needs}
 use Rattle.floats.specs.IntervalLaws.{answered-refused}
 use Rattle.floats.proofs.intervals.uniform_of.Statement.{statement}

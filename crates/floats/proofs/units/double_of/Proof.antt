@@ -1,15 +1,13 @@
 -- `double_of` meets its contract: the word's 53 high bits are below 2 ^ 53, so the cast and the product are exact. Assumes nothing.
-use Prim.Native.Nat.{_/_, _^_}
 use native.Mathlib.Omega.{arith}
-use lib.Dec.{le→leb, lit≤}
-use lib.Ieee.{binary64, inFloat, ofBits}
-use Rattle.floats.specs.DyadicLaws.{exact-draw}
+use lib.Dec.{lit≤}
+use lib.Ieee.{binary64, ofBits}
+use Rattle.floats.specs.DyadicLaws.{cast-exact, exact-draw}
 use Rattle.floats.proofs.units.double_of.Statement.{statement}
 use Rattle.floats.proofs.units.double_of.Tie as tie
 
 int-to-float-result : tie.Need-int-to-float-result
-unfolding inFloat
-int-to-float-result c = le→leb (c .before .args .word / 2048) (2 ^ 53) (omega arith)
+int-to-float-result c = cast-exact binary64 _ (omega arith)
 
 returns : tie.Need-returns
 unfolding ofBits

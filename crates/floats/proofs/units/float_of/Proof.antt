@@ -1,15 +1,13 @@
 -- `float_of` meets its contract: the word's 24 high bits are below 2 ^ 24, so the cast and the product are exact. Assumes nothing.
-use Prim.Native.Nat.{_/_, _^_}
 use native.Mathlib.Omega.{arith}
-use lib.Dec.{le→leb, lit≤}
-use lib.Ieee.{binary32, inFloat, ofBits}
-use Rattle.floats.specs.DyadicLaws.{exact-draw}
+use lib.Dec.{lit≤}
+use lib.Ieee.{binary32, ofBits}
+use Rattle.floats.specs.DyadicLaws.{cast-exact, exact-draw}
 use Rattle.floats.proofs.units.float_of.Statement.{statement}
 use Rattle.floats.proofs.units.float_of.Tie as tie
 
 int-to-float-result : tie.Need-int-to-float-result
-unfolding inFloat
-int-to-float-result c = le→leb (c .before .args .word / 256) (2 ^ 24) (omega arith)
+int-to-float-result c = cast-exact binary32 _ (omega arith)
 
 returns : tie.Need-returns
 unfolding ofBits
