@@ -13,7 +13,6 @@ use Rattle.floats.specs.Units.{doubleOf}
 use Rattle.floats.specs.Chances.{isChance, chanceRefusal, coinOf}
 use Rattle.floats.specs.OrderLaws.{zeroFloat, oneFloat, total}
 use Rattle.floats.specs.OrderLaws.{negative-below-zero, positive-not-below-zero, negative-not-above-one, one-below}
-use Rattle.floats.specs.declared.chances.Coin.{Coin}
 
 -- ---- the code's two tests
 pub is-chance-tests : (p : Float) → isChance p ≡ (le zeroFloat p && le p oneFloat)

@@ -13,7 +13,6 @@ use Rattle.floats.specs.Intervals.{endsAreFinite, isOutOfOrder, width, i
 use Rattle.floats.specs.OrderLaws.{total}
 use Rattle.floats.specs.FiniteLaws.{Infinite, NotFinite, not-finite, never-finite, overflowed}
 use Rattle.floats.specs.declared.intervals.Interval.{Interval}
-use Rattle.floats.specs.declared.intervals.Uniform.{Uniform}
 use Rattle.floats.specs.declared.intervals.Uniform.the-variants.{Number, Refused}
 
 -- ---- the refusal by the tests: the first fault that there is gives its number

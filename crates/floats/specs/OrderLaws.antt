@@ -4,9 +4,9 @@
 use mathlib.Core.Path.{_≡_, refl, sym}
 use mathlib.Core.Logic.{_⊎_, inl, inr, ⊎-elim}
 use Prim.Native.Nat.{ℕ, zero, suc, _+_, _*_, _≤_, _<_, zero-le}
-use native.Mathlib.Nat.{zero-lt-suc, le-of-lt, le-of-eq, eq-or-lt-of-le, eq-zero-or-pos, mul-one, one-mul, zero-mul, mul-pos}
+use native.Mathlib.Nat.{add-comm, zero-lt-suc, le-of-lt, le-of-eq, eq-or-lt-of-le, eq-zero-or-pos, mul-one, one-mul, zero-mul, mul-pos}
 use native.Mathlib.Omega.{arith}
-use mathlib.Core.Bool.{Bool, true, false, not, _&&_, _||_, and-false, false≢true}
+use mathlib.Core.Bool.{Bool, true, false, not, _&&_, _||_, and-false, or-not-self, false≢true}
 use borrow.Author.Tests.{lt-ltb, le-ltb, le-leb, lt-leb, eq-eqb, ne-eqb}
 use lib.IntN.{ℤ, pos}
 use lib.Dec.{T, ltb, leb, eqb, ltb→lt, nltb→le}
@@ -38,15 +38,6 @@ same-sign a b e yes' no' = go (sides a b)
     go (level h) = rw (le-ltb b a (le-of-eq h), le-ltb a b (le-of-eq (sym h)), yes' h)
     go (over h) = rw (lt-ltb b a h, le-ltb a b (le-of-lt h))
 
-unlike-signs : (a b : ℕ) → (ltb 0 (b + a) || (eqb b a && (false || eqb b 0))) ≡ true
-unlike-signs a b = ⊎-elim (λ z. none a b z) (λ h. rw (lt-ltb 0 (b + a) h)) (eq-zero-or-pos (b + a))
-  where
-    none : (a b : ℕ) → b + a ≡ 0 → (ltb 0 (b + a) || (eqb b a && (false || eqb b 0))) ≡ true
-    none a b z =
-        let p : a ≡ 0 = omega arith in
-        let q : b ≡ 0 = omega arith in
-        rw (p, q)
-
 negative-first : (a b : ℕ) → (eqb b a && (false || eqb b 0)) ≡ not (ltb 0 (a + b))
 negative-first a b = ⊎-elim (λ z. none a b z) (λ h. some a b h) (eq-zero-or-pos (a + b))
   where
@@ -62,6 +53,9 @@ negative-first a b = ⊎-elim (λ z. none a b z) (λ h. some a b h) (eq-zero-or-
         (λ z. rw (lt-ltb 0 (a + b) h, ne-eqb b a (λ e. omega arith)))
         (λ k. rw (lt-ltb 0 (a + b) h, ne-eqb b 0 (λ e. omega arith), and-false))
         (eq-zero-or-pos b)
+
+unlike-signs : (a b : ℕ) → (ltb 0 (b + a) || (eqb b a && (false || eqb b 0))) ≡ true
+unlike-signs a b = rw (negative-first a b, add-comm b a) (or-not-self (ltb 0 (a + b)))
 
 -- ---- at least: not below
 pub total : (x y : Float) → finite x ≡ true → finite y ≡ true → le y x ≡ not (lt x y)
