@@ -5,7 +5,7 @@ use Prim.Native.Nat.{ℕ}
 use mathlib.Core.Bool.{Bool, true, false}
 use lib.IntN.{pos, negsuc}
 use lib.Ieee.{Float, fin, binary64, ofBits, add, sub, mul, le, lt}
-use Rattle.floats.specs.Refusal.{order, chance, notFinite}
+use Rattle.words.specs.Refusal.{order, chance, notFinite}
 use Rattle.floats.specs.Units.{dyadic, floatOf, doubleOf}
 use Rattle.floats.specs.Chances.{isChance, coinOf}
 use Rattle.floats.specs.Intervals.{intervalRefusal, numberIn, uniformOf}

@@ -8,7 +8,7 @@ use native.Mathlib.Omega.{arith}
 use mathlib.Core.Bool.{Bool, true, false, not, _&&_, cond, Bool·not-not, and-true, false≢true}
 use borrow.Author.Tests.{not-true}
 use lib.Ieee.{Float, nan, inf, fin, lt, le, isNan}
-use Rattle.floats.specs.Refusal.{chance}
+use Rattle.words.specs.Refusal.{chance}
 use Rattle.floats.specs.Units.{doubleOf}
 use Rattle.floats.specs.Chances.{isChance, chanceRefusal, coinOf}
 use Rattle.floats.specs.OrderLaws.{zeroFloat, oneFloat, total}

@@ -3,7 +3,7 @@ use Prim.Native.Nat.{ℕ, _*_}
 use mathlib.Core.Bool.{Bool, true, false, _&&_, cond}
 use lib.Dec.{eqb, leb}
 use lib.Ieee.{Float, nan, inf, fin, up, down, lt}
-use Rattle.floats.specs.Refusal.{chance}
+use Rattle.words.specs.Refusal.{chance}
 use Rattle.floats.specs.Units.{doubleOf}
 use Rattle.floats.specs.declared.chances.Coin.{Coin}
 

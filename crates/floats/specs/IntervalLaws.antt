@@ -8,7 +8,7 @@ use native.Mathlib.Omega.{arith}
 use mathlib.Core.Bool.{Bool, true, false, not, _&&_, cond, Bool·not-not, and-false, false≢true}
 use lib.Ieee.{Float, binary64, lt, le}
 use lib.Ieee.Scale.{finite}
-use Rattle.floats.specs.Refusal.{order, notFinite}
+use Rattle.words.specs.Refusal.{order, notFinite}
 use Rattle.floats.specs.Intervals.{endsAreFinite, isOutOfOrder, width, intervalRefusal, numberIn, answered, uniformOf, refusalOf}
 use Rattle.floats.specs.OrderLaws.{total}
 use Rattle.floats.specs.FiniteLaws.{Infinite, NotFinite, not-finite, never-finite, overflowed}

@@ -4,7 +4,7 @@ use Prim.Native.Nat.{ℕ, zero, suc}
 use mathlib.Core.Bool.{Bool, not, _&&_, cond}
 use lib.Ieee.{Float, binary64, add, sub, mul, le}
 use lib.Ieee.Scale.{finite}
-use Rattle.floats.specs.Refusal.{order, notFinite}
+use Rattle.words.specs.Refusal.{order, notFinite}
 use Rattle.floats.specs.Units.{doubleOf}
 use Rattle.floats.specs.declared.intervals.Interval.{Interval}
 use Rattle.floats.specs.declared.intervals.Uniform.{Uniform}

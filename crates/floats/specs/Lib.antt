@@ -1,5 +1,4 @@
 -- What the float draws mean, over the whole numbers that a float is read as, with what is proved of it.
-pub mod Refusal
 pub mod Units
 pub mod DyadicLaws
 pub mod UnitLaws

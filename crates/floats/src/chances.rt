@@ -1,8 +1,8 @@
 // A coin that falls true with chance p: whether a double is below p.
 ghost use mathlib.Core.Path.{_≡_};
 ghost use Rattle.floats.specs.Chances.{isChance, chanceRefusal, coinOf};
-use super::refusal;
 use super::units::double_of;
+use words::refusal;
 
 // The refusal's number, 0 for none, and the value, false where it is refused.
 #[repr(C)]

@@ -2,8 +2,8 @@
 ghost use mathlib.Core.Path.{_≡_};
 ghost use lib.Ieee.Scale.{finite};
 ghost use Rattle.floats.specs.Intervals.{endsAreFinite, isOutOfOrder, intervalRefusal, numberIn, uniformOf};
-use super::refusal;
 use super::units::double_of;
+use words::refusal;
 
 // A low end and a high end, kept together.
 #[repr(C)]
