@@ -19,6 +19,9 @@ given r t = record { word = r .word; next = lent (r .next) t }
 abbrev pub given64 : EngineWord64 → List ℕ → Drawn
 given64 r t = record { word = r .word; next = lent (r .next) t }
 
+abbrev pub engineWith : Backend → ℕ → Engine
+engineWith b p = record { backend = b; mti = p }
+
 -- a word with the engine after it, put together
 abbrev pub answerOf : ℕ → Backend → ℕ → EngineWord
 answerOf w b p = record { word = w; next = record { backend = b; mti = p } }

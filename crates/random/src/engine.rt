@@ -1,13 +1,20 @@
 // The lent layer: a generator's small words by value, and the twister's table lent by the caller. No table is copied.
 ghost use mathlib.Core.Path.{_≡_};
 ghost use Rattle.random.specs.Generator.{drawn32, drawn64, drawnOwn, widthOf};
-ghost use Rattle.random.specs.Lent.{lent, given, given64, answerOf, answer64Of};
+ghost use Rattle.random.specs.Lent.{lent, given, given64, engineWith, answerOf, answer64Of};
 use crate::backend::Backend;
 
 // All of a generator but the table.
 pub struct Engine {
     pub backend: Backend,
     pub mti: u32,
+}
+
+// An engine of a backend and a position.
+pub(crate) fn engine_with(backend: Backend, mti: u32) -> Engine
+    ensures { λ r. ⌜ r ≡ engineWith backend mti ⌝ }
+{
+    Engine { backend, mti }
 }
 
 // A word of 32 bits, and the engine after it.
