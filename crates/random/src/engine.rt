@@ -11,7 +11,7 @@ pub struct Engine {
 }
 
 // An engine of a backend and a position.
-pub(crate) fn engine_with(backend: Backend, mti: u32) -> Engine
+pub fn engine_with(backend: Backend, mti: u32) -> Engine
     ensures { λ r. ⌜ r ≡ engineWith backend mti ⌝ }
 {
     Engine { backend, mti }

@@ -1,0 +1,3 @@
+-- What making and seeding a generator hand back.
+pub mod Make
+pub mod Seeding

@@ -1,0 +1,103 @@
+// Making a generator by its kind's own calls, which refuse nothing: from parts set by hand, from a seed number, from a seed and a stream.
+// What a kind does not use is zeros.
+ghost use mathlib.Core.Path.{_≡_};
+ghost use Rattle.wrapping.specs.Wide.{value};
+ghost use Rattle.making.specs.Make.{zeroTwister, ofXoshiro, ofTwister, ofPcg32, ofPcg64, zeroGenerator};
+ghost use Rattle.mersenne_twister.specs.Table as twister;
+ghost use Rattle.pcg.specs.Pcg32 as pcg32;
+ghost use Rattle.pcg.specs.Pcg64 as pcg64;
+ghost use Rattle.xoshiro.specs.Seed as xoshiro;
+use mersenne_twister::MersenneTwister;
+use pcg::Pcg32;
+use pcg::Pcg64;
+use random::Backend;
+use random::Random;
+use wrapping::Wide;
+use xoshiro::Xoshiro256PlusPlus;
+
+// ---- from parts set by hand, each kind's own
+
+pub fn from_xoshiro(x: Xoshiro256PlusPlus) -> Random
+    ensures { λ r. ⌜ r ≡ ofXoshiro x ⌝ }
+{
+    beside_zeros(Backend::Xoshiro256PlusPlus(x))
+}
+
+pub fn from_mersenne_twister(twister: MersenneTwister) -> Random
+    ensures { λ r. ⌜ r ≡ ofTwister twister ⌝ }
+{
+    Random {
+        backend: Backend::MersenneTwister,
+        twister,
+    }
+}
+
+pub fn from_pcg32(p: Pcg32) -> Random
+    ensures { λ r. ⌜ r ≡ ofPcg32 p ⌝ }
+{
+    beside_zeros(Backend::Pcg32(p))
+}
+
+pub fn from_pcg64(p: Pcg64) -> Random
+    ensures { λ r. ⌜ r ≡ ofPcg64 p ⌝ }
+{
+    beside_zeros(Backend::Pcg64(p))
+}
+
+// A backend that has no use for the twister's table.
+fn beside_zeros(backend: Backend) -> Random
+    ensures { λ r. ⌜ r ≡ record { backend = backend; twister = zeroTwister } ⌝ }
+{
+    let twister = MersenneTwister {
+        mt: [0u32; 624],
+        mti: 0,
+    };
+    Random { backend, twister }
+}
+
+// Kind 0 with four zero words: what a refused making hands out.
+pub fn zeros() -> Random
+    ensures { λ r. ⌜ r ≡ zeroGenerator ⌝ }
+{
+    from_xoshiro(Xoshiro256PlusPlus::from_parts(0, 0, 0, 0))
+}
+
+// ---- from a seed number
+
+pub fn from_u64_seed(seed: u64) -> Random
+    ensures { λ r. ⌜ r ≡ ofXoshiro (xoshiro.seeded seed) ⌝ }
+{
+    from_xoshiro(Xoshiro256PlusPlus::from_u64_seed(seed))
+}
+
+pub fn new_mersenne_twister_with_seed(seed: u32) -> Random
+    ensures { λ r. ⌜ r ≡ ofTwister (twister.seeded seed) ⌝ }
+{
+    from_mersenne_twister(MersenneTwister::from_u32_seed(seed))
+}
+
+pub fn new_pcg32_with_seed(seed: u64) -> Random
+    ensures { λ r. ⌜ r ≡ ofPcg32 (pcg32.seeded seed pcg32.defaultStream) ⌝ }
+{
+    from_pcg32(Pcg32::from_u64_seed(seed))
+}
+
+pub fn new_pcg64_with_seed(seed: Wide) -> Random
+    ensures { λ r. ⌜ r ≡ ofPcg64 (pcg64.seeded (value seed) pcg64.defaultStream) ⌝ }
+{
+    from_pcg64(Pcg64::from_u128_seed(seed))
+}
+
+// ---- from a seed and a stream
+
+pub fn new_pcg32_with_stream(seed: u64, stream: u64) -> Random
+    ensures { λ r. ⌜ r ≡ ofPcg32 (pcg32.seeded seed stream) ⌝ }
+{
+    from_pcg32(Pcg32::from_seed_stream(seed, stream))
+}
+
+pub fn new_pcg64_with_stream(seed: Wide, stream: Wide) -> Random
+    ensures { λ r. ⌜ r ≡ ofPcg64 (pcg64.seeded (value seed) (value stream)) ⌝ }
+{
+    from_pcg64(Pcg64::from_seed_stream(seed, stream))
+}

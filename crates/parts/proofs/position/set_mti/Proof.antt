@@ -1,0 +1,20 @@
+-- `set_mti` meets its contract. Assumes nothing.
+use borrow.Author.Needs.{needs}
+use Rattle.parts.proofs.position.set_mti.Statement.{statement}
+use Rattle.parts.proofs.position.set_mti.Tie as tie
+
+engine-of-requires : tie.Need-engine-of-requires
+engine-of-requires c κs = search needs
+
+set-mti-in-requires : tie.Need-set-mti-in-requires
+set-mti-in-requires c κs = search needs
+
+with-table-requires : tie.Need-with-table-requires
+with-table-requires c κs = search needs
+
+returns : tie.Need-returns
+returns c = rw (c .with-table .ensures, c .before .before .set-mti-in .ensures, c .before .before .before .engine-of .ensures)
+
+pub set-mti-spec : {M : Type 1} → statement M
+set-mti-spec =
+    tie.close (tie.spec engine-of-requires set-mti-in-requires with-table-requires returns)

@@ -1,0 +1,5 @@
+-- A generator's kind, its twister's position and twist, and its split.
+pub mod Kind
+pub mod Position
+pub mod Splitting
+pub mod SplittingLaws
