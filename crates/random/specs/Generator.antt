@@ -1,6 +1,7 @@
 -- A generator of one of the four kinds (document 01, "The facade in random.rs"): its words and the generator after them. Each kind's
 -- word and step are the definitions written from its authors' papers.
 use Prim.Native.Nat.{ℕ, zero, suc, _+_, _/_, _^_}
+use lib.Bits.{bitXor}
 use Rattle.mersenne_twister.specs.declared.MersenneTwister as twister-type
 use Rattle.mersenne_twister.specs.Table as twister
 use Rattle.pcg.specs.Pcg32 as pcg32
@@ -103,3 +104,11 @@ drawn64 g = record { word = word64Of g; next = advance (steps64 (g .backend)) g 
 
 unfoldable pub drawnOwn : Gen → Drawn
 drawnOwn g = record { word = ownWord g; next = step g }
+
+-- the first n words of a sequence, XORed
+unfoldable pub xorOf : (ℕ → ℕ) → ℕ → ℕ
+xorOf s zero = 0
+xorOf s (suc n) = bitXor (xorOf s n) (s n)
+
+unfoldable pub drawnXor : ℕ → Gen → Drawn
+drawnXor n g = record { word = xorOf (wordsOf g) n; next = advance n g }

@@ -1,11 +1,12 @@
 -- Words as they come, by value: the generator n words on, and what `rand`, `u64` and `pseudo` hand back (document 01, "The facade").
-use Prim.Native.Nat.{ℕ, zero, suc, _+_}
+use Prim.Native.Nat.{ℕ, zero, suc}
 use mathlib.Core.List.{List}
-use lib.Bits.{bitXor}
 use Rattle.mersenne_twister.specs.Table.{held}
-use Rattle.random.specs.Generator.{Gen, genOf, wordOf, word64Of, steps64, advance, wordsOf}
+use Rattle.signed.specs.Signed.{signedOf}
+use Rattle.random.specs.Generator.{Gen, genOf, wordOf, word64Of, steps64, advance, wordsOf, xorOf}
 use Rattle.random.specs.declared.backend.Random.{Random}
 use Rattle.random.specs.declared.engine.Engine.{Engine}
+use Rattle.random.specs.declared.by_value.Signed64.{Signed64}
 use Rattle.random.specs.declared.by_value.Word32.{Word32}
 use Rattle.random.specs.declared.by_value.Word64.{Word64}
 
@@ -34,10 +35,9 @@ randOf g = record { word = wordOf (genOf g); next = later 1 g }
 unfoldable pub u64Of : Random → Word64
 u64Of g = record { word = word64Of (genOf g); next = later (steps64 (g .backend)) g }
 
--- the first n words of a sequence, XORed
-unfoldable pub xorOf : (ℕ → ℕ) → ℕ → ℕ
-xorOf s zero = 0
-xorOf s (suc n) = bitXor (xorOf s n) (s n)
+-- the same word read as signed (two's complement)
+unfoldable pub i64Of : Random → Signed64
+i64Of g = record { word = signedOf 64 (word64Of (genOf g)); next = later (steps64 (g .backend)) g }
 
 -- `pseudo`: 32 words XORed
 unfoldable pub pseudoOf : Random → Word32

@@ -1,6 +1,6 @@
 // Words by value: of 32 bits, of 64, and 32 words XORed. Each call hands back the next generator.
 ghost use mathlib.Core.Path.{_≡_};
-ghost use Rattle.random.specs.Words.{engineIn, joinedWith, randOf, u64Of, pseudoOf};
+ghost use Rattle.random.specs.Words.{engineIn, joinedWith, randOf, u64Of, i64Of, pseudoOf};
 use crate::backend::Random;
 use crate::engine;
 use crate::engine::Engine;
@@ -15,6 +15,12 @@ pub struct Word32 {
 // A word of 64 bits, and the generator after it.
 pub struct Word64 {
     pub word: u64,
+    pub next: Random,
+}
+
+// A word of 64 bits read as signed, and the generator after it.
+pub struct Signed64 {
+    pub word: i64,
     pub next: Random,
 }
 
@@ -60,4 +66,26 @@ pub fn u64(g: Random) -> Word64
     let mt = moved.twister.mt;
     let next = with_table(e, mt);
     Word64 { word: d.word, next }
+}
+
+// The next 64-bit word, read as signed.
+pub fn i64(g: Random) -> Signed64
+    ensures { λ r. ⌜ r ≡ i64Of g ⌝ }
+{
+    let d = u64(g);
+    let next = d.next;
+    let word = signed::signed_u64(d.word);
+    Signed64 { word, next }
+}
+
+// The next 32 words, XORed.
+pub fn pseudo(g: Random) -> Word32
+    ensures { λ r. ⌜ r ≡ pseudoOf g ⌝ }
+{
+    let mut moved = g;
+    let d = engine::pseudo_in(engine_of(g), &mut moved.twister.mt);
+    let e = d.next;
+    let mt = moved.twister.mt;
+    let next = with_table(e, mt);
+    Word32 { word: d.word, next }
 }

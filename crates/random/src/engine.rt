@@ -1,6 +1,6 @@
 // The lent layer: a generator's small words by value, and the twister's table lent by the caller. No table is copied.
 ghost use mathlib.Core.Path.{_≡_};
-ghost use Rattle.random.specs.Generator.{drawn32, drawn64, drawnOwn, widthOf};
+ghost use Rattle.random.specs.Generator.{drawn32, drawn64, drawnOwn, drawnXor, widthOf};
 ghost use Rattle.random.specs.Lent.{lent, given, given64, engineWith, answerOf, answer64Of};
 use crate::backend::Backend;
 
@@ -132,4 +132,20 @@ pub fn next_own(e: Engine, mt: &mut [u32; 624]) -> EngineWord64
         word: d.word as u64,
         next,
     }
+}
+
+// The next 32 words, XORed.
+pub fn pseudo_in(e: Engine, mt: &mut [u32; 624]) -> EngineWord
+    ensures { λ r. ⌜ given r (now (mt .exit)) ≡ drawnXor 32 (lent e (now (mt .entry))) ⌝ }
+{
+    let mut next = e;
+    let mut word: u32 = 0;
+    let mut n: u32 = 0;
+    while n < 32 {
+        let d = next_u32(next, mt);
+        word = word ^ d.word;
+        next = d.next;
+        n += 1;
+    }
+    EngineWord { word, next }
 }

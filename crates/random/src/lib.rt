@@ -6,9 +6,12 @@ mod engine;
 
 pub use backend::Backend;
 pub use backend::Random;
+pub use by_value::Signed64;
 pub use by_value::Word32;
 pub use by_value::Word64;
 pub use by_value::engine_of;
+pub use by_value::i64;
+pub use by_value::pseudo;
 pub use by_value::rand;
 pub use by_value::u64;
 pub use by_value::with_table;
@@ -19,4 +22,5 @@ pub use engine::engine_with;
 pub use engine::next_own;
 pub use engine::next_u32;
 pub use engine::next_u64;
+pub use engine::pseudo_in;
 pub use engine::width;

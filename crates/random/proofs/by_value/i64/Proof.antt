@@ -1,0 +1,20 @@
+-- `i64` meets its contract. Assumes nothing.
+use mir.Syntax.{w64}
+use borrow.Author.Needs.{needs}
+use Rattle.signed.specs.Callers.{result-read}
+use Rattle.random.specs.WordsLaws.{i64-is}
+use Rattle.random.proofs.by_value.i64.Statement.{statement}
+use Rattle.random.proofs.by_value.i64.Tie as tie
+
+u64-requires : tie.Need-u64-requires
+u64-requires c κs = search needs
+
+signed-u64-requires : tie.Need-signed-u64-requires
+signed-u64-requires c κs = search needs
+
+returns : tie.Need-returns
+returns c =
+    rw (result-read w64 _ (c .signed-u64 .ok), c .signed-u64 .ensures) (i64-is _ (c .before .before .u64 .result) (c .before .before .u64 .ensures))
+
+pub i64-spec : {M : Type 1} → statement M
+i64-spec = tie.close (tie.spec u64-requires signed-u64-requires returns)
