@@ -1,6 +1,6 @@
 -- A generator of one of the four kinds (document 01, "The facade in random.rs"): its words and the generator after them. Each kind's
 -- word and step are the definitions written from its authors' papers.
-use Prim.Native.Nat.{ℕ, zero, suc, _+_, _/_, _^_}
+use Prim.Native.Nat.{ℕ, zero, suc, _+_, _*_, _/_, _^_}
 use lib.Bits.{bitXor}
 use Rattle.mersenne_twister.specs.declared.MersenneTwister as twister-type
 use Rattle.mersenne_twister.specs.Table as twister
@@ -64,8 +64,8 @@ wordOf g = wordBy (g .backend) (g .twister)
 
 abbrev pub word64By : Backend → twister-type.MersenneTwister → ℕ
 word64By (Xoshiro256PlusPlus x) t = xoshiro.result x
-word64By MersenneTwister t = twister.drawn64 t .word
-word64By (Pcg32 p) t = pcg32.drawnTwice p .word
+word64By MersenneTwister t = twister.drawn t .word * 2 ^ 32 + twister.drawn (twister.drawn t .next) .word
+word64By (Pcg32 p) t = pcg32.wordOf (pcg32.stepped p) * 2 ^ 32 + pcg32.wordOf p
 word64By (Pcg64 p) t = pcg64.wordOf p
 
 -- what `u64` gives: the kind's own word, or two words, the high one first (the twister) or the low one first (Pcg32)

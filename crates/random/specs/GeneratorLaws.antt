@@ -6,7 +6,7 @@ use native.Mathlib.Nat.{add-zero, add-suc}
 use native.Mathlib.Numerals.{add-one}
 use native.Mathlib.Omega.{arith}
 use Rattle.mersenne_twister.specs.declared.MersenneTwister as twister-type
-use Rattle.mersenne_twister.specs.Table as twister
+use Rattle.pcg.specs.declared.pcg32.Pcg32 as pcg32-type
 use Rattle.random.specs.declared.backend.Backend.{Backend}
 use Rattle.random.specs.declared.backend.Backend.the-variants.{Xoshiro256PlusPlus, MersenneTwister, Pcg32, Pcg64}
 use Rattle.random.specs.Generator.{Gen, gen, step, stepBy, widthOf, ownWord, ownBy, wordOf, wordBy, word64Of, word64By, steps64, advance, wordsOf, Drawn, drawn32, drawn64, drawnOwn}
@@ -86,5 +86,10 @@ rand-is-high-half g = half-by (g .backend) (g .twister)
 -- the twister's 64-bit word is two words, the high one first; Pcg32's has the low one first
 pub twister-high-first : (t : twister-type.MersenneTwister)
     → word64Of (gen MersenneTwister t) ≡ wordsOf (gen MersenneTwister t) 0 * 2 ^ 32 + wordsOf (gen MersenneTwister t) 1
-unfolding word64Of wordsOf wordOf advance step twister.drawn64
+unfolding word64Of wordsOf wordOf advance step
 twister-high-first t = refl
+
+pub pcg32-low-first : (p : pcg32-type.Pcg32) (t : twister-type.MersenneTwister)
+    → word64Of (gen (Pcg32 p) t) ≡ wordsOf (gen (Pcg32 p) t) 1 * 2 ^ 32 + wordsOf (gen (Pcg32 p) t) 0
+unfolding word64Of wordsOf wordOf advance step
+pcg32-low-first p t = refl

@@ -1,0 +1,22 @@
+-- `bool` meets its contract: what is drawn over the lent table is the generator's. Assumes nothing.
+use borrow.Author.Needs.{needs}
+use Rattle.float_draws.specs.Laws.{flip-is}
+use Rattle.float_draws.proofs.coins.bool.Statement.{statement}
+use Rattle.float_draws.proofs.coins.bool.Tie as tie
+
+engine-of-requires : tie.Need-engine-of-requires
+engine-of-requires c κs = search needs
+
+bool-in-requires : tie.Need-bool-in-requires
+bool-in-requires c κs = search needs
+
+with-table-requires : tie.Need-with-table-requires
+with-table-requires c κs = search needs
+
+returns : tie.Need-returns
+returns c =
+    let drawn = rw (c .before .before .before .before .before .engine-of .ensures) at (c .before .before .before .bool-in .ensures) in
+    rw (c .with-table .ensures) (flip-is _ _ _ (c .before .before .before .bool-in .result) drawn)
+
+pub bool-spec : {M : Type 1} → statement M
+bool-spec = tie.close (tie.spec engine-of-requires bool-in-requires with-table-requires returns)

@@ -1,0 +1,30 @@
+-- `uniform_in` meets its contract. Assumes nothing.
+use mathlib.Core.Path.{_∙_, sym}
+use borrow.Author.Needs.{needs}
+use Rattle.float_draws.specs.Laws.{spread-taken, spread-refused}
+use Rattle.float_draws.proofs.intervals.uniform_in.Statement.{statement}
+use Rattle.float_draws.proofs.intervals.uniform_in.Tie as tie
+
+interval-refusal-requires : tie.Need-interval-refusal-requires
+interval-refusal-requires c κs = search needs
+
+next-u64-requires : tie.Need-next-u64-requires
+next-u64-requires c κs = search needs
+
+number-in-requires : tie.Need-number-in-requires
+number-in-requires c κs = search needs
+
+returns : tie.Need-returns
+returns c =
+    let asked = c .before .before .before .before in
+    rw (c .number-in .ensures) (spread-taken _ _ (sym (asked .before .interval-refusal .ensures) ∙ asked .if1 .taken) (c .before .before .next-u64 .result) _ (c .before .before .next-u64 .ensures))
+
+returns-2 : tie.Need-returns-2
+returns-2 c =
+    let told = c .before .interval-refusal .ensures in
+    rw told (spread-refused _ _ (λ z. c .if1 .left (told ∙ z)))
+
+pub uniform-in-spec : {M : Type 1} → statement M
+uniform-in-spec =
+    tie.close
+    (tie.spec interval-refusal-requires next-u64-requires number-in-requires returns returns-2)

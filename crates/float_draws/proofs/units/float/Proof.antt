@@ -1,0 +1,22 @@
+-- `float` meets its contract: what is drawn over the lent table is the generator's. Assumes nothing.
+use borrow.Author.Needs.{needs}
+use Rattle.float_draws.specs.Laws.{float-is}
+use Rattle.float_draws.proofs.units.float.Statement.{statement}
+use Rattle.float_draws.proofs.units.float.Tie as tie
+
+engine-of-requires : tie.Need-engine-of-requires
+engine-of-requires c κs = search needs
+
+float-in-requires : tie.Need-float-in-requires
+float-in-requires c κs = search needs
+
+with-table-requires : tie.Need-with-table-requires
+with-table-requires c κs = search needs
+
+returns : tie.Need-returns
+returns c =
+    let drawn = rw (c .before .before .before .before .before .engine-of .ensures) at (c .before .before .before .float-in .ensures) in
+    rw (c .with-table .ensures) (float-is _ _ (c .before .before .before .float-in .result) drawn)
+
+pub float-spec : {M : Type 1} → statement M
+float-spec = tie.close (tie.spec engine-of-requires float-in-requires with-table-requires returns)

@@ -1,0 +1,53 @@
+// `uniform`: a number of an interval, or the refusal's number, with the next generator beside it.
+ghost use mathlib.Core.Path.{_≡_};
+ghost use Rattle.random.specs.Lent.{lent};
+ghost use Rattle.float_draws.specs.Spreads.{spreadFrom, spreadIn, spread};
+use floats::Interval;
+use floats::Uniform;
+use random::Engine;
+use random::Random;
+use random::engine_of;
+use random::with_table;
+use words::refusal;
+
+pub struct Spread {
+    pub answer: Uniform,
+    pub next: Random,
+}
+
+// The same over a lent table.
+pub struct EngineSpread {
+    pub answer: Uniform,
+    pub next: Engine,
+}
+
+pub fn uniform_in(e: Engine, mt: &mut [u32; 624], i: Interval) -> EngineSpread
+    ensures { λ r. ⌜ spread r (now (mt .exit)) ≡ spreadIn (lent e (now (mt .entry))) i ⌝ }
+{
+    let refused = floats::interval_refusal(i);
+    if refused == refusal::ANSWERED {
+        let d = random::next_u64(e, mt);
+        let next = d.next;
+        let number = floats::number_in(i, d.word);
+        return EngineSpread {
+            answer: Uniform::Number(number),
+            next,
+        };
+    }
+    EngineSpread {
+        answer: Uniform::Refused(refused),
+        next: e,
+    }
+}
+
+pub fn uniform(g: Random, i: Interval) -> Spread
+    ensures { λ r. ⌜ r ≡ spreadFrom g i ⌝ }
+{
+    let mut moved = g;
+    let d = uniform_in(engine_of(g), &mut moved.twister.mt, i);
+    let e = d.next;
+    let mt = moved.twister.mt;
+    let next = with_table(e, mt);
+    let answer = d.answer;
+    Spread { answer, next }
+}
