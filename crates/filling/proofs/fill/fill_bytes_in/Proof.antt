@@ -1,0 +1,63 @@
+-- `fill_bytes_in` meets its contract: the whole words, and the low bytes of one more where some room is left. Assumes nothing.
+use mathlib.Core.Path.{ap}
+use native.Mathlib.Nat.{mod-le}
+use borrow.Author.Needs.{needs}
+use Rattle.random.specs.Generator.{Drawn, drawnOwn}
+use Rattle.random.specs.GeneratorLaws.{width-positive}
+use Rattle.filling.specs.FillLaws.{tail-fits, filled-whole, filled-tail}
+use Rattle.filling.proofs.fill.fill_bytes_in.Statement.{statement}
+use Rattle.filling.proofs.fill.fill_bytes_in.Tie as tie
+
+width-requires : tie.Need-width-requires
+width-requires c κs = search needs
+
+rem-few : tie.Need-rem-few
+rem-few c = rw (c .width .ensures) (width-positive (c .before .before .args .e .backend))
+
+whole-words-requires : tie.Need-whole-words-requires
+whole-words-requires c κs = search needs
+
+same-length : tie.Need-same-length
+same-length c = search needs
+
+returns : tie.Need-returns
+returns c =
+    let whole = c .before .before .before in
+    filled-whole (whole .whole-words .ensures) (rw (whole .before .before .before .width .ensures) at (c .if1 .taken))
+
+next-own-requires : tie.Need-next-own-requires
+next-own-requires c κs = search needs
+
+sub-put-few : tie.Need-sub-put-few
+sub-put-few c = mod-le _ _
+
+put-few-requires : tie.Need-put-few-requires
+put-few-requires c κs = rw (c .before .before .before .before .before .before .whole-words .ensures .size) (tail-fits _ _)
+
+same-length-2 : tie.Need-same-length-2
+same-length-2 c = search needs
+
+returns-2 : tie.Need-returns-2
+unfolding drawnOwn
+returns-2 c =
+    let drawn = c .before .before .before .before .before .next-own .ensures in
+    let test = c .before .before .before .before .before .before .before in
+    let whole = test .before .before .before in
+    let width = whole .before .before .before .width .ensures in
+    rw (c .before .before .before .put-few .ensures, width)
+    (filled-tail (whole .whole-words .ensures) _ _ (rw width at (test .if1 .left)) (ap (λ (d : Drawn). d .word) drawn) (ap (λ (d : Drawn). d .next) drawn))
+
+pub fill-bytes-in-spec : {M : Type 1} → statement M
+fill-bytes-in-spec =
+    tie.close
+    (tie.spec
+    width-requires
+    rem-few
+    whole-words-requires
+    same-length
+    returns
+    next-own-requires
+    sub-put-few
+    put-few-requires
+    same-length-2
+    returns-2)

@@ -1,0 +1,97 @@
+-- `words_of_pcg64` meets its contract: each turn writes two words more, and one may be left after the last. Assumes nothing.
+use borrow.Author.Needs.{needs}
+use mathlib.Core.Path.{refl}
+use Prim.Native.Nat.{_-_}
+use native.Mathlib.Omega.{arith}
+use Rattle.pcg.specs.Pcg64.{wordOf, stepped}
+use Rattle.filling.specs.FillLoop.{Filling, filling-start, filling-more, filling-two, filling-end}
+use Rattle.filling.proofs.fill.words_of_pcg64.Statement.{statement}
+use Rattle.filling.proofs.fill.words_of_pcg64.Tie as tie
+
+abbrev Inv-loop : tie.InvT-loop
+Inv-loop dest₀ n next₀ i₀ dest next i = Filling wordOf stepped 8 next₀ n i next dest
+
+abbrev μ-loop : tie.MeasureT-loop
+μ-loop dest₀ n next₀ i₀ dest next i = n - i
+
+loop-holds : tie.Need-loop-holds Inv-loop μ-loop
+loop-holds c = filling-start _ _ _ _ _
+
+sub-loop : tie.Need-sub-loop Inv-loop μ-loop
+sub-loop c = c .loop .inv .within
+
+next-u64-requires : tie.Need-next-u64-requires Inv-loop μ-loop
+next-u64-requires c κs = search needs
+
+next-u64-requires-2 : tie.Need-next-u64-requires-2 Inv-loop μ-loop
+next-u64-requires-2 c κs = search needs
+
+put8-requires : tie.Need-put8-requires Inv-loop μ-loop
+put8-requires c κs = omega arith
+
+add-put8 : tie.Need-add-put8 Inv-loop μ-loop
+add-put8 c = omega arith
+
+put8-requires-2 : tie.Need-put8-requires-2 Inv-loop μ-loop
+put8-requires-2 c κs = omega arith
+
+add-i : tie.Need-add-i Inv-loop μ-loop
+add-i c = omega arith
+
+loop-less : tie.Need-loop-less Inv-loop μ-loop
+loop-less c = omega arith
+
+loop-again : tie.Need-loop-again Inv-loop μ-loop
+loop-again c =
+    let put = c .before .before .before .before .before .before in
+    let drawn = put .before .before .before .before .before in
+    rw (c .before .before .put82 .ensures, put .put8 .ensures, put .before .before .before .next-u642 .ensures, drawn .next-u64 .ensures)
+    (filling-two (drawn .before .before .loop .inv) _ _ _ refl refl refl (omega arith) (drawn .before .loop-test .taken))
+
+sub-if1 : tie.Need-sub-if1 Inv-loop μ-loop
+sub-if1 c = c .before .loop .inv .within
+
+next-u64-requires-3 : tie.Need-next-u64-requires-3 Inv-loop μ-loop
+next-u64-requires-3 c κs = search needs
+
+put8-requires-3 : tie.Need-put8-requires-3 Inv-loop μ-loop
+put8-requires-3 c κs = omega arith
+
+same-length : tie.Need-same-length Inv-loop μ-loop
+same-length c = search needs
+
+returns : tie.Need-returns Inv-loop μ-loop
+returns c =
+    let drawn = c .before .before .before .before .before in
+    let one = filling-more (drawn .before .before .before .loop .inv) _ _ refl refl (omega arith) (drawn .before .if1 .taken) in
+    rw (c .before .before .before .put83 .ensures, drawn .next-u643 .ensures) (filling-end one (omega arith))
+
+same-length-2 : tie.Need-same-length-2 Inv-loop μ-loop
+same-length-2 c = c .before .before .loop .inv .size
+
+returns-2 : tie.Need-returns-2 Inv-loop μ-loop
+returns-2 c = filling-end (c .before .before .loop .inv) (c .if1 .left)
+
+pub words-of-pcg64-spec : {M : Type 1} → statement M
+words-of-pcg64-spec =
+    tie.close
+    (tie.spec
+    Inv-loop
+    μ-loop
+    loop-holds
+    sub-loop
+    next-u64-requires
+    next-u64-requires-2
+    put8-requires
+    add-put8
+    put8-requires-2
+    add-i
+    loop-less
+    loop-again
+    sub-if1
+    next-u64-requires-3
+    put8-requires-3
+    same-length
+    returns
+    same-length-2
+    returns-2)
