@@ -1,0 +1,29 @@
+-- `settle_on_copy` meets its contract: the copy is written back where the draw was settled, and there alone. Assumes nothing.
+use mathlib.Core.Path.{refl}
+use borrow.Author.Needs.{needs}
+use Rattle.bounded.specs.AnswerLaws.{draws-found, draws-short}
+use Rattle.bounded.proofs.below.settle_on_copy.Statement.{statement}
+use Rattle.bounded.proofs.below.settle_on_copy.Tie as tie
+
+draw-in-requires : tie.Need-draw-in-requires
+draw-in-requires c κs = search needs
+
+accept-in-requires : tie.Need-accept-in-requires
+accept-in-requires c κs = search needs
+
+returns : tie.Need-returns
+returns c =
+    let d = c .before .before .before .draw-in in
+    draws-found _ _ (d .ensures .0) refl (c .before .before .if1 .taken) (d .ensures .1) (c .accept-in .ensures)
+
+refuse-in-requires : tie.Need-refuse-in-requires
+refuse-in-requires c κs = search needs
+
+returns-2 : tie.Need-returns-2
+returns-2 c =
+    let d = c .before .before .draw-in in
+    draws-short _ _ (d .ensures .0) (c .before .before .before .before .before .pre) (c .before .if1 .left) (c .refuse-in .ensures)
+
+pub settle-on-copy-spec : {M : Type 1} → statement M
+settle-on-copy-spec =
+    tie.close (tie.spec draw-in-requires accept-in-requires returns refuse-in-requires returns-2)

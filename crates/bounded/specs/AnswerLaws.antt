@@ -1,0 +1,84 @@
+-- The laws of answers: what the code builds is the answer of an outcome.
+-- Assumes nothing.
+use mathlib.Core.Path.{_≡_, refl, sym, _∙_, ap}
+use mathlib.Core.Bool.{Bool, true, false, cond}
+use mathlib.Core.List.{List}
+use Prim.Native.Nat.{ℕ, _^_, _<_}
+use native.Mathlib.Omega.{arith}
+use borrow.Author.Tests.{le-leb, lt-leb, eq-eqb, ne-eqb}
+use Rattle.words.specs.Refusal.{answered, zeroRange, outOfBudget}
+use Rattle.words.specs.Draw.{good, quotient, Outcome, refused, gives, boundedBy}
+use Rattle.words.specs.GoodWord.{good-passes, passes-positive}
+use Rattle.words.specs.BelowItsBound.{quotient-below}
+use Rattle.words.specs.DrawLoop.{Told, told-answers, told-refuses}
+use Rattle.words.specs.OneOutcome.{zero-range, bounded-only}
+use Rattle.random.specs.declared.backend.Random.{Random}
+use Rattle.random.specs.declared.engine.Engine.{Engine}
+use Rattle.random.specs.declared.engine.EngineWord.{EngineWord}
+use Rattle.random.specs.Generator.{Gen, genOf, advance, wordsOf, Drawn, drawn32}
+use Rattle.random.specs.GeneratorLaws.{advance-none}
+use Rattle.random.specs.Lent.{lent, given}
+use Rattle.random.specs.Words.{later}
+use Rattle.random.specs.WordsLaws.{joined-later}
+use Rattle.bounded.specs.declared.answers.EngineAnswer.{EngineAnswer}
+use Rattle.bounded.specs.declared.draw.Tried.{Tried}
+use Rattle.bounded.specs.Answers.{LentAnswer, handed, answeredIn, joinedAnswer, refusing, accepting}
+use Rattle.bounded.specs.Answers as answers
+use Rattle.bounded.specs.Trying.{TriedFrom, trying-start, trying-good}
+
+-- ---- what the code builds
+
+pub refusing-answers : (number : ℕ) (e : Engine) (t : List ℕ) → handed (refusing number e) t ≡ answeredIn (lent e t) (refused number)
+unfolding answeredIn
+refusing-answers number e t = rw (advance-none (lent e t))
+
+pub accepting-answers : (v n : ℕ) (e : Engine) (t : List ℕ) (g : Gen) → lent e t ≡ advance n g → handed (accepting v n e) t ≡ answeredIn g (gives v n)
+unfolding answeredIn
+accepting-answers v n e t g h = ap (λ (a : Gen). record { refusal = 0; value = v; used = n; next = a }) h
+
+-- the engine's answer and the table, joined, are the whole generator's answer
+pub joined-answers : (g : Random) (o : Outcome) (a : EngineAnswer) (t : List ℕ) → handed a t ≡ answeredIn (genOf g) o → joinedAnswer a t ≡ answers.answered g o
+unfolding answeredIn answers.answered
+joined-answers g o a t h =
+    let n : a .used ≡ o .used = ap (λ (x : LentAnswer). x .used) h in
+    let next : lent (a .next) t ≡ advance (o .used) (genOf g) = ap (λ (x : LentAnswer). x .next) h in
+    rw (ap (λ (x : LentAnswer). x .refusal) h, ap (λ (x : LentAnswer). x .value) h, n, joined-later (o .used) g (a .next) t next)
+
+-- ---- a draw below r over a lent table: what it owes, by its ways out
+
+abbrev pub Draws : Gen → ℕ → ℕ → EngineAnswer → List ℕ → Type 0
+Draws g r budget a m = (handed a m ≡ answeredIn g (boundedBy (wordsOf g) r budget)) × (a .refusal ≡ answered → a .value < r)
+
+no-value : {a : EngineAnswer} {e : Engine} (r number : ℕ) → 0 < number → a ≡ refusing number e → a .refusal ≡ answered → a .value < r
+no-value r number p q z = absurd (omega (arith, sym (ap (λ (x : EngineAnswer). x .refusal) q) ∙ z))
+
+-- r is 0,
+pub draws-zero : {a : EngineAnswer} {r : ℕ} (budget : ℕ) (e : Engine) (m : List ℕ) → a ≡ refusing zeroRange e → r ≡ 0 → Draws (lent e m) r budget a m
+draws-zero {r = r} budget e m q z = (
+  ap (λ (x : EngineAnswer). handed x m) q ∙ refusing-answers zeroRange e m ∙ ap (answeredIn _) (sym (bounded-only _ r budget (zero-range z))),
+  no-value r zeroRange (omega arith) q,
+)
+
+-- a try that was settled is the answer,
+pub draws-found : {g : Gen} {r budget : ℕ} {t : Tried} {h : Gen} {a : EngineAnswer} (e : Engine) (m : List ℕ) → TriedFrom g r budget t h → lent e m ≡ h
+    → t .found ≡ true → (t .found ≡ true → t .value < r) → a ≡ accepting (t .value) (t .used) e → Draws g r budget a m
+draws-found {g} {t = t} e m d same q small p = (
+  ap (λ (x : EngineAnswer). handed x m) p ∙ accepting-answers (t .value) (t .used) e m g (same ∙ d .moved) ∙ ap (answeredIn g) (sym (told-answers (d .told) q)),
+  λ z. rw p (small q),
+)
+
+-- and one that was not is the refusal, with the generator that came in.
+pub draws-short : {r budget : ℕ} {t : Tried} {h : Gen} {a : EngineAnswer} (e : Engine) (m : List ℕ) → TriedFrom (lent e m) r budget t h → 0 < r
+    → t .found ≡ false → a ≡ refusing outOfBudget e → Draws (lent e m) r budget a m
+draws-short {r} e m d pos q p = (
+  ap (λ (x : EngineAnswer). handed x m) p ∙ refusing-answers outOfBudget e m ∙ ap (answeredIn _) (sym (told-refuses (d .told) pos q)),
+  no-value r outOfBudget (omega arith) p,
+)
+
+-- The first word, where it is good, is a try that is settled.
+pub draws-first : {r budget v : ℕ} {b : Bool} {w : EngineWord} {a : EngineAnswer} (e : Engine) (m m′ : List ℕ) → 0 < budget
+    → given w m′ ≡ drawn32 (lent e m) → w .word < 2 ^ 32 → b ≡ good r (w .word) → b ≡ true → v ≡ quotient r (w .word)
+    → a ≡ accepting v 1 (w .next) → Draws (lent e m) r budget a m′
+draws-first {r} {w = w} e m m′ some d sized g t q p =
+    let pos = passes-positive r (w .word) (good-passes r (w .word) (sym g ∙ t)) in
+    draws-found (w .next) m′ (trying-good trying-start (w .next) some d g t q) refl refl (λ z. rw q (quotient-below r (w .word) pos sized)) p

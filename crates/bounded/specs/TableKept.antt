@@ -1,0 +1,58 @@
+-- When the twister's table stays as it came: at every word of the other kinds, and at the twister's own words but for the renewals.
+-- Assumes nothing.
+use mathlib.Core.Path.{_≡_, refl, sym, _∙_, ap}
+use mathlib.Core.Bool.{Bool, true, false, true≢false}
+use mathlib.Core.List.{List}
+use Prim.Native.Nat.{ℕ, zero, suc}
+use borrow.Author.Tests.{ltb-true}
+use lib.Dec.{ltb}
+use Rattle.mersenne_twister.specs.declared.MersenneTwister as twister-type
+use Rattle.mersenne_twister.specs.DrawLaws.{in-low}
+use Rattle.random.specs.declared.backend.Backend.{Backend}
+use Rattle.random.specs.declared.backend.Backend.the-variants.{Xoshiro256PlusPlus, MersenneTwister, Pcg32, Pcg64}
+use Rattle.random.specs.Generator.{Gen, stepBy, step, advance, Drawn, drawn32}
+use Rattle.random.specs.Lent.{lent}
+use Rattle.random.specs.declared.engine.Engine.{Engine}
+
+-- whether a kind draws from the table
+abbrev pub onTable : Backend → Bool
+onTable (Xoshiro256PlusPlus x) = false
+onTable MersenneTwister = true
+onTable (Pcg32 p) = false
+onTable (Pcg64 p) = false
+
+-- whether the next word is ready, so that no renewal comes before it, at this position
+abbrev pub readyAt : Backend → ℕ → Bool
+readyAt (Xoshiro256PlusPlus x) p = true
+readyAt MersenneTwister p = ltb p 624
+readyAt (Pcg32 q) p = true
+readyAt (Pcg64 q) p = true
+
+-- a word that is ready leaves the table
+ready-by : (b : Backend) (t : twister-type.MersenneTwister) → readyAt b (t .mti) ≡ true → stepBy b t .twister .mt ≡ t .mt
+ready-by (Xoshiro256PlusPlus x) t h = refl
+ready-by MersenneTwister t h = ap (λ d. d .next .mt) (in-low (t .mt) (t .mti) (ltb-true (t .mti) 624 h))
+ready-by (Pcg32 p) t h = refl
+ready-by (Pcg64 p) t h = refl
+
+pub ready-keeps : {d : Drawn} (e : Engine) (m : List ℕ) → readyAt (e .backend) (e .mti) ≡ true → d ≡ drawn32 (lent e m) → d .next .twister .mt ≡ m
+unfolding step drawn32
+ready-keeps e m h q = ap (λ (d : Drawn). d .next .twister .mt) q ∙ ready-by (e .backend) (lent e m .twister) h
+
+-- the kinds that don't draw from the table leave it at every word
+kept-by : (b : Backend) (t : twister-type.MersenneTwister) → onTable b ≡ false → (onTable (stepBy b t .backend) ≡ false) × (stepBy b t .twister ≡ t)
+kept-by (Xoshiro256PlusPlus x) t h = (refl, refl)
+kept-by MersenneTwister t h = absurd (true≢false h)
+kept-by (Pcg32 p) t h = (refl, refl)
+kept-by (Pcg64 p) t h = (refl, refl)
+
+kept-after : (n : ℕ) (g : Gen) → onTable (g .backend) ≡ false → (onTable (advance n g .backend) ≡ false) × (advance n g .twister ≡ g .twister)
+unfolding advance step
+kept-after zero g h = (h, refl)
+kept-after (suc n) g h =
+    let (still, same) = kept-after n g h in
+    let (on, one) = kept-by (advance n g .backend) (advance n g .twister) still in
+    (on, one ∙ same)
+
+pub others-keep : {h : Gen} (n : ℕ) (e : Engine) (m : List ℕ) → onTable (e .backend) ≡ false → h ≡ advance n (lent e m) → h .twister .mt ≡ m
+others-keep n e m h q = ap (λ (g : Gen). g .twister .mt) q ∙ ap (λ (t : twister-type.MersenneTwister). t .mt) (kept-after n (lent e m) h .1)

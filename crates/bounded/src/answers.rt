@@ -1,0 +1,59 @@
+// What the calls that draw a number hand back: the one place that builds answers.
+ghost use mathlib.Core.Path.{_≡_};
+ghost use Rattle.bounded.specs.Answers.{refusing, accepting, joinedAnswer};
+use random::Engine;
+use random::Random;
+
+// Refusal 0 where the call is answered. Where it is refused, value and used are 0, and next is the generator that came in.
+pub struct Answer {
+    pub refusal: u32,
+    pub value: u32,
+    pub used: u32,
+    pub next: Random,
+}
+
+// The same over a lent table.
+pub struct EngineAnswer {
+    pub refusal: u32,
+    pub value: u32,
+    pub used: u32,
+    pub next: Engine,
+}
+
+// A refused call: its number, and the engine that came in.
+pub fn refuse_in(number: u32, e: Engine) -> EngineAnswer
+    ensures { λ a. ⌜ a ≡ refusing number e ⌝ }
+{
+    EngineAnswer {
+        refusal: number,
+        value: 0,
+        used: 0,
+        next: e,
+    }
+}
+
+// An answered call: its value, the words used, and the engine after them.
+pub fn accept_in(value: u32, used: u32, next: Engine) -> EngineAnswer
+    ensures { λ a. ⌜ a ≡ accepting value used next ⌝ }
+{
+    EngineAnswer {
+        refusal: words::refusal::ANSWERED,
+        value,
+        used,
+        next,
+    }
+}
+
+// Either of them by value: the answer over a lent table, and the table that it left.
+pub fn joined(a: EngineAnswer, mt: [u32; 624]) -> Answer
+    ensures { λ r. ⌜ r ≡ joinedAnswer a mt ⌝ }
+{
+    let e = a.next;
+    let next = random::with_table(e, mt);
+    Answer {
+        refusal: a.refusal,
+        value: a.value,
+        used: a.used,
+        next,
+    }
+}

@@ -1,0 +1,107 @@
+// A draw below a bound. The table changes only where the twister renews it, once in 624 words: so the first word, where it is ready and
+// good, settles nearly every draw and writes nothing. Otherwise the loop runs, for the twister on a copy that is written back on success.
+ghost use mathlib.Core.Path.{_≡_};
+ghost use Prim.Native.Nat.{_<_};
+ghost use Rattle.words.specs.Draw.{boundedBy};
+ghost use Rattle.random.specs.Generator.{wordsOf};
+ghost use Rattle.random.specs.Lent.{lent};
+ghost use Rattle.bounded.specs.Answers.{wordsFrom, answered, handed, answeredIn};
+ghost use Rattle.bounded.specs.TableKept.{onTable, readyAt};
+use crate::answers::Answer;
+use crate::answers::EngineAnswer;
+use crate::answers::accept_in;
+use crate::answers::joined;
+use crate::answers::refuse_in;
+use crate::draw::draw_in;
+use random::Backend;
+use random::Engine;
+use random::Random;
+
+// Whether the kind draws from the table.
+fn on_table(backend: Backend) -> bool
+    ensures { λ b. ⌜ b ≡ onTable backend ⌝ }
+{
+    match backend {
+        Backend::Xoshiro256PlusPlus(_) => false,
+        Backend::MersenneTwister => true,
+        Backend::Pcg32(_) => false,
+        Backend::Pcg64(_) => false,
+    }
+}
+
+// Whether the next word is there without a renewal of the table.
+fn is_ready(backend: Backend, mti: u32) -> bool
+    ensures { λ b. ⌜ b ≡ readyAt backend mti ⌝ }
+{
+    match backend {
+        Backend::Xoshiro256PlusPlus(_) => true,
+        Backend::MersenneTwister => mti < 624,
+        Backend::Pcg32(_) => true,
+        Backend::Pcg64(_) => true,
+    }
+}
+
+// The draw by the loop, on a copy of the table.
+fn settle_on_copy(e: Engine, mt: &mut [u32; 624], r: u32, budget: u32) -> EngineAnswer
+    requires { ⌜ 0 < r ⌝ }
+    ensures answer { λ a. ⌜ handed a (now (mt .exit)) ≡ answeredIn (lent e (now (mt .entry))) (boundedBy (wordsOf (lent e (now (mt .entry)))) r budget) ⌝ }
+    ensures small { λ a. ⌜ (a .refusal ≡ 0 → a .value < r) ⌝ }
+{
+    let mut copy = *mt;
+    let t = draw_in(e, &mut copy, r, budget);
+    if t.found {
+        *mt = copy;
+        let next = t.next;
+        return accept_in(t.value, t.used, next);
+    }
+    refuse_in(words::refusal::BUDGET, e)
+}
+
+// The draw by the loop.
+fn settle(e: Engine, mt: &mut [u32; 624], r: u32, budget: u32) -> EngineAnswer
+    ensures answer { λ a. ⌜ handed a (now (mt .exit)) ≡ answeredIn (lent e (now (mt .entry))) (boundedBy (wordsOf (lent e (now (mt .entry)))) r budget) ⌝ }
+    ensures small { λ a. ⌜ (a .refusal ≡ 0 → a .value < r) ⌝ }
+{
+    if r == 0 {
+        return refuse_in(words::refusal::ZERO_RANGE, e);
+    }
+    let backend = e.backend;
+    if on_table(backend) {
+        return settle_on_copy(e, mt, r, budget);
+    }
+    let t = draw_in(e, mt, r, budget);
+    if t.found {
+        let next = t.next;
+        return accept_in(t.value, t.used, next);
+    }
+    refuse_in(words::refusal::BUDGET, e)
+}
+
+// A number below r. Where it is refused the table is as it came.
+pub fn bounded_in(e: Engine, mt: &mut [u32; 624], r: u32, budget: u32) -> EngineAnswer
+    ensures answer { λ a. ⌜ handed a (now (mt .exit)) ≡ answeredIn (lent e (now (mt .entry))) (boundedBy (wordsOf (lent e (now (mt .entry)))) r budget) ⌝ }
+    ensures small { λ a. ⌜ (a .refusal ≡ 0 → a .value < r) ⌝ }
+{
+    if budget > 0 {
+        let backend = e.backend;
+        if is_ready(backend, e.mti) {
+            let w = random::next_u32(e, mt);
+            if words::is_good(w.word, r) {
+                let next = w.next;
+                return accept_in(words::quotient(w.word, r), 1, next);
+            }
+            return settle(e, mt, r, budget);
+        }
+    }
+    settle(e, mt, r, budget)
+}
+
+// A number below r.
+pub fn bounded(g: Random, r: u32, budget: u32) -> Answer
+    ensures { λ a. ⌜ a ≡ answered g (boundedBy (wordsFrom g) r budget) ⌝ }
+{
+    let mut moved = g;
+    let a = bounded_in(random::engine_of(g), &mut moved.twister.mt, r, budget);
+    let mt = moved.twister.mt;
+    joined(a, mt)
+}

@@ -1,0 +1,51 @@
+// The loop of a draw: one word after the other, until one is good or the budget ends.
+ghost use mathlib.Core.Bool.{true};
+ghost use mathlib.Core.Path.{_≡_};
+ghost use Prim.Native.Nat.{_<_};
+ghost use Rattle.random.specs.Lent.{lent};
+ghost use Rattle.bounded.specs.Trying.{TriedFrom};
+use random::Engine;
+
+// Whether a word settled the draw, its value (0 where none did), the words taken, and the engine after them.
+pub struct Tried {
+    pub found: bool,
+    pub value: u32,
+    pub used: u32,
+    pub next: Engine,
+}
+
+// A draw below r. It takes the words up to the good one; where none is good the whole budget, and none where r is 0.
+pub fn draw_in(e: Engine, mt: &mut [u32; 624], r: u32, budget: u32) -> Tried
+    ensures draw { λ t. ⌜ TriedFrom (lent e (now (mt .entry))) r budget t (lent (t .next) (now (mt .exit))) ⌝ }
+    ensures small { λ t. ⌜ (t .found ≡ true → t .value < r) ⌝ }
+{
+    let mut next = e;
+    let mut used: u32 = 0;
+    if r == 0 {
+        return Tried {
+            found: false,
+            value: 0,
+            used,
+            next,
+        };
+    }
+    while used < budget {
+        let w = random::next_u32(next, mt);
+        next = w.next;
+        used += 1;
+        if words::is_good(w.word, r) {
+            return Tried {
+                found: true,
+                value: words::quotient(w.word, r),
+                used,
+                next,
+            };
+        }
+    }
+    Tried {
+        found: false,
+        value: 0,
+        used,
+        next,
+    }
+}

@@ -1,0 +1,15 @@
+// One number drawn within a budget of words: below a bound, between two ends, a letter. Every call has two forms: by value, and over a lent
+// table, which is not copied and stays as it came where the call refuses.
+mod answers;
+mod below;
+mod draw;
+
+pub use answers::Answer;
+pub use answers::EngineAnswer;
+pub use answers::accept_in;
+pub use answers::joined;
+pub use answers::refuse_in;
+pub use below::bounded;
+pub use below::bounded_in;
+pub use draw::Tried;
+pub use draw::draw_in;
