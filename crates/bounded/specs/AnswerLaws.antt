@@ -3,9 +3,11 @@
 use mathlib.Core.Path.{_≡_, refl, sym, _∙_, ap}
 use mathlib.Core.Bool.{Bool, true, false, cond}
 use mathlib.Core.List.{List}
-use Prim.Native.Nat.{ℕ, _^_, _<_}
+use Prim.Native.Nat.{ℕ, _+_, _%_, _^_, _<_}
 use native.Mathlib.Omega.{arith}
-use borrow.Author.Tests.{le-leb, lt-leb, eq-eqb, ne-eqb}
+use borrow.Author.Tests.{eqb-true}
+use lib.Dec.{eqb}
+use native.Mathlib.Nat.{mod-eq-of-lt}
 use Rattle.words.specs.Refusal.{answered, zeroRange, outOfBudget}
 use Rattle.words.specs.Draw.{good, quotient, Outcome, refused, gives, boundedBy}
 use Rattle.words.specs.GoodWord.{good-passes, passes-positive}
@@ -22,19 +24,22 @@ use Rattle.random.specs.Words.{later}
 use Rattle.random.specs.WordsLaws.{joined-later}
 use Rattle.bounded.specs.declared.answers.EngineAnswer.{EngineAnswer}
 use Rattle.bounded.specs.declared.draw.Tried.{Tried}
-use Rattle.bounded.specs.Answers.{LentAnswer, handed, answeredIn, joinedAnswer, refusing, accepting}
+use Rattle.bounded.specs.Answers.{LentAnswer, handed, answeredIn, joinedAnswer, refusing, accepting, raisedAnswer}
+use Rattle.bounded.specs.Ranges.{raised}
 use Rattle.bounded.specs.Answers as answers
 use Rattle.bounded.specs.Trying.{TriedFrom, trying-start, trying-good}
 
 -- ---- what the code builds
 
-pub refusing-answers : (number : ℕ) (e : Engine) (t : List ℕ) → handed (refusing number e) t ≡ answeredIn (lent e t) (refused number)
+pub refusing-answers : {a : EngineAnswer} {o : Outcome} {number : ℕ} (e : Engine) (t : List ℕ) → a ≡ refusing number e → o ≡ refused number
+    → handed a t ≡ answeredIn (lent e t) o
 unfolding answeredIn
-refusing-answers number e t = rw (advance-none (lent e t))
+refusing-answers e t p q = rw (p, q, advance-none (lent e t))
 
-pub accepting-answers : (v n : ℕ) (e : Engine) (t : List ℕ) (g : Gen) → lent e t ≡ advance n g → handed (accepting v n e) t ≡ answeredIn g (gives v n)
+pub accepting-answers : {a : EngineAnswer} {o : Outcome} {v n : ℕ} (e : Engine) (t : List ℕ) (g : Gen) → a ≡ accepting v n e → o ≡ gives v n → lent e t ≡ advance n g
+    → handed a t ≡ answeredIn g o
 unfolding answeredIn
-accepting-answers v n e t g h = ap (λ (a : Gen). record { refusal = 0; value = v; used = n; next = a }) h
+accepting-answers e t g p q h = rw (p, q, h)
 
 -- the engine's answer and the table, joined, are the whole generator's answer
 pub joined-answers : (g : Random) (o : Outcome) (a : EngineAnswer) (t : List ℕ) → handed a t ≡ answeredIn (genOf g) o → joinedAnswer a t ≡ answers.answered g o
@@ -43,6 +48,21 @@ joined-answers g o a t h =
     let n : a .used ≡ o .used = ap (λ (x : LentAnswer). x .used) h in
     let next : lent (a .next) t ≡ advance (o .used) (genOf g) = ap (λ (x : LentAnswer). x .next) h in
     rw (ap (λ (x : LentAnswer). x .refusal) h, ap (λ (x : LentAnswer). x .value) h, n, joined-later (o .used) g (a .next) t next)
+
+-- n added to an answer, where the sum has 32 bits
+pub raised-answers : {a : EngineAnswer} {t : List ℕ} (n : ℕ) (g : Gen) (o : Outcome) → handed a t ≡ answeredIn g o → (a .refusal ≡ answered → n + a .value < 2 ^ 32)
+    → handed (raisedAnswer n a) t ≡ answeredIn g (raised n o)
+unfolding raisedAnswer raised answeredIn
+raised-answers {a} {t} n g o h small = go (eqb (a .refusal) answered) refl
+  where
+    same : {b : Bool} → eqb (a .refusal) answered ≡ b → eqb (o .refusal) answered ≡ b
+    same e = ap (λ (x : LentAnswer). eqb (x .refusal) answered) (sym h) ∙ e
+
+    go : (b : Bool) → eqb (a .refusal) answered ≡ b → handed (raisedAnswer n a) t ≡ answeredIn g (raised n o)
+    go true e =
+        let v : (n + a .value) % 2 ^ 32 ≡ n + o .value = mod-eq-of-lt (small (eqb-true (a .refusal) answered e)) ∙ ap (λ (x : LentAnswer). n + x .value) h in
+        rw (e, same e, v) (ap (λ (x : LentAnswer). record { refusal = answered; value = n + o .value; used = x .used; next = x .next }) h)
+    go false e = rw (e, same e) h
 
 -- ---- a draw below r over a lent table: what it owes, by its ways out
 
@@ -55,15 +75,15 @@ no-value r number p q z = absurd (omega (arith, sym (ap (λ (x : EngineAnswer). 
 -- r is 0,
 pub draws-zero : {a : EngineAnswer} {r : ℕ} (budget : ℕ) (e : Engine) (m : List ℕ) → a ≡ refusing zeroRange e → r ≡ 0 → Draws (lent e m) r budget a m
 draws-zero {r = r} budget e m q z = (
-  ap (λ (x : EngineAnswer). handed x m) q ∙ refusing-answers zeroRange e m ∙ ap (answeredIn _) (sym (bounded-only _ r budget (zero-range z))),
+  refusing-answers e m q (bounded-only _ r budget (zero-range z)),
   no-value r zeroRange (omega arith) q,
 )
 
 -- a try that was settled is the answer,
 pub draws-found : {g : Gen} {r budget : ℕ} {t : Tried} {h : Gen} {a : EngineAnswer} (e : Engine) (m : List ℕ) → TriedFrom g r budget t h → lent e m ≡ h
     → t .found ≡ true → (t .found ≡ true → t .value < r) → a ≡ accepting (t .value) (t .used) e → Draws g r budget a m
-draws-found {g} {t = t} e m d same q small p = (
-  ap (λ (x : EngineAnswer). handed x m) p ∙ accepting-answers (t .value) (t .used) e m g (same ∙ d .moved) ∙ ap (answeredIn g) (sym (told-answers (d .told) q)),
+draws-found {g} e m d same q small p = (
+  accepting-answers e m g p (told-answers (d .told) q) (same ∙ d .moved),
   λ z. rw p (small q),
 )
 
@@ -71,7 +91,7 @@ draws-found {g} {t = t} e m d same q small p = (
 pub draws-short : {r budget : ℕ} {t : Tried} {h : Gen} {a : EngineAnswer} (e : Engine) (m : List ℕ) → TriedFrom (lent e m) r budget t h → 0 < r
     → t .found ≡ false → a ≡ refusing outOfBudget e → Draws (lent e m) r budget a m
 draws-short {r} e m d pos q p = (
-  ap (λ (x : EngineAnswer). handed x m) p ∙ refusing-answers outOfBudget e m ∙ ap (answeredIn _) (sym (told-refuses (d .told) pos q)),
+  refusing-answers e m p (told-refuses (d .told) pos q),
   no-value r outOfBudget (omega arith) p,
 )
 

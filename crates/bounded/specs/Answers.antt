@@ -1,7 +1,9 @@
 -- What every budgeted call hands back (document 01, "Draws", "When the unit says no"): an outcome over the generator's words, with the
 -- generator after the words used. A refusal has used none, so its generator is the one that came in. No other file names the whole generator.
+use mathlib.Core.Bool.{cond}
 use mathlib.Core.List.{List}
-use Prim.Native.Nat.{ℕ}
+use Prim.Native.Nat.{ℕ, _+_, _%_, _^_}
+use lib.Dec.{eqb}
 use Rattle.words.specs.Draw.{Words, Outcome}
 use Rattle.words.specs.Refusal as refusal
 use Rattle.random.specs.declared.backend.Random.{Random}
@@ -45,6 +47,10 @@ refusing number e = record { refusal = number; value = 0; used = 0; next = e }
 
 abbrev pub accepting : ℕ → ℕ → Engine → EngineAnswer
 accepting v n e = record { refusal = refusal.answered; value = v; used = n; next = e }
+
+-- n added to the value of an answer
+unfoldable pub raisedAnswer : ℕ → EngineAnswer → EngineAnswer
+raisedAnswer n a = cond (eqb (a .refusal) refusal.answered) (accepting ((n + a .value) % 2 ^ 32) (a .used) (a .next)) a
 
 abbrev pub joinedAnswer : EngineAnswer → List ℕ → Answer
 joinedAnswer a t = record { refusal = a .refusal; value = a .value; used = a .used; next = joinedWith (a .next) t }

@@ -7,3 +7,4 @@ pub mod Ranges
 pub mod Trying
 pub mod TableKept
 pub mod AnswerLaws
+pub mod RangeLaws

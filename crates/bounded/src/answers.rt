@@ -1,6 +1,6 @@
 // What the calls that draw a number hand back: the one place that builds answers.
 ghost use mathlib.Core.Path.{_≡_};
-ghost use Rattle.bounded.specs.Answers.{refusing, accepting, joinedAnswer};
+ghost use Rattle.bounded.specs.Answers.{refusing, accepting, raisedAnswer, joinedAnswer};
 use random::Engine;
 use random::Random;
 
@@ -42,6 +42,18 @@ pub fn accept_in(value: u32, used: u32, next: Engine) -> EngineAnswer
         used,
         next,
     }
+}
+
+// An answer with n added to its value, modulo 2^32; a refusal stays as it is.
+pub fn raise_in(n: u32, a: EngineAnswer) -> EngineAnswer
+    ensures { λ r. ⌜ r ≡ raisedAnswer n a ⌝ }
+{
+    if a.refusal == words::refusal::ANSWERED {
+        let next = a.next;
+        let sum = (n as u64) + (a.value as u64);
+        return accept_in((sum % 0x1_0000_0000) as u32, a.used, next);
+    }
+    a
 }
 
 // Either of them by value: the answer over a lent table, and the table that it left.

@@ -3,13 +3,19 @@
 mod answers;
 mod below;
 mod draw;
+mod ranges;
 
 pub use answers::Answer;
 pub use answers::EngineAnswer;
 pub use answers::accept_in;
 pub use answers::joined;
+pub use answers::raise_in;
 pub use answers::refuse_in;
 pub use below::bounded;
 pub use below::bounded_in;
 pub use draw::Tried;
 pub use draw::draw_in;
+pub use ranges::char;
+pub use ranges::char_in;
+pub use ranges::random_range;
+pub use ranges::random_range_in;

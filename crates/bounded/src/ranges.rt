@@ -1,0 +1,63 @@
+// Draws that are a draw below a bound with a number added: between two ends, and a letter.
+ghost use mathlib.Core.Path.{_≡_};
+ghost use Rattle.random.specs.Generator.{wordsOf};
+ghost use Rattle.random.specs.Lent.{lent};
+ghost use Rattle.bounded.specs.Answers.{wordsFrom, answered, handed, answeredIn};
+ghost use Rattle.bounded.specs.Ranges.{rangeBy, charBy};
+use crate::answers::Answer;
+use crate::answers::EngineAnswer;
+use crate::answers::joined;
+use crate::answers::raise_in;
+use crate::answers::refuse_in;
+use crate::below::bounded_in;
+use random::Engine;
+use random::Random;
+
+// A number from min up to max - 1. Where it is refused the table is as it came.
+pub fn random_range_in(
+    e: Engine,
+    mt: &mut [u32; 624],
+    min: u32,
+    max: u32,
+    budget: u32,
+) -> EngineAnswer
+    ensures { λ a. ⌜ handed a (now (mt .exit)) ≡ answeredIn (lent e (now (mt .entry))) (rangeBy (wordsOf (lent e (now (mt .entry)))) min max budget) ⌝ }
+{
+    if max <= min {
+        return refuse_in(words::refusal::ORDER, e);
+    }
+    raise_in(min, bounded_in(e, mt, max - min, budget))
+}
+
+// A number from min up to max - 1.
+pub fn random_range(g: Random, min: u32, max: u32, budget: u32) -> Answer
+    ensures { λ a. ⌜ a ≡ answered g (rangeBy (wordsFrom g) min max budget) ⌝ }
+{
+    let mut moved = g;
+    let a = random_range_in(
+        random::engine_of(g),
+        &mut moved.twister.mt,
+        min,
+        max,
+        budget,
+    );
+    let mt = moved.twister.mt;
+    joined(a, mt)
+}
+
+// A small letter's ASCII code. Where it is refused the table is as it came.
+pub fn char_in(e: Engine, mt: &mut [u32; 624], budget: u32) -> EngineAnswer
+    ensures { λ a. ⌜ handed a (now (mt .exit)) ≡ answeredIn (lent e (now (mt .entry))) (charBy (wordsOf (lent e (now (mt .entry)))) budget) ⌝ }
+{
+    raise_in(97, bounded_in(e, mt, 26, budget))
+}
+
+// A small letter's ASCII code.
+pub fn char(g: Random, budget: u32) -> Answer
+    ensures { λ a. ⌜ a ≡ answered g (charBy (wordsFrom g) budget) ⌝ }
+{
+    let mut moved = g;
+    let a = char_in(random::engine_of(g), &mut moved.twister.mt, budget);
+    let mt = moved.twister.mt;
+    joined(a, mt)
+}
