@@ -3,6 +3,10 @@
 -- What a reader must believe: how an outcome over the generator's words becomes an answer, and the outcomes of the calls.
 pub mod Answers
 pub mod Ranges
+-- What their promises fix: one answer, the same at every larger budget; when a call is refused, and where its value lies.
+pub mod OneAnswer
+pub mod Budgeted
+pub mod RangeOutcomes
 -- For code that draws from a generator: the one loop, and when the twister's table stays as it came.
 pub mod Trying
 pub mod TableKept

@@ -52,9 +52,10 @@ fn settle_on_copy(e: Engine, mt: &mut [u32; 624], r: u32, budget: u32) -> Engine
     if t.found {
         *mt = copy;
         let next = t.next;
-        return accept_in(t.value, t.used, next);
+        accept_in(t.value, t.used, next)
+    } else {
+        refuse_in(words::refusal::BUDGET, e)
     }
-    refuse_in(words::refusal::BUDGET, e)
 }
 
 // The draw by the loop.
