@@ -26,4 +26,4 @@ returns-2 c =
 
 pub settle-on-copy-spec : {M : Type 1} → statement M
 settle-on-copy-spec =
-    tie.close (tie.spec draw-in-requires accept-in-requires returns refuse-in-requires returns-2)
+    tie.close (tie.spec draw-in-requires accept-in-requires refuse-in-requires returns returns-2)
