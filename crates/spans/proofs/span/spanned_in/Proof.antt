@@ -1,0 +1,50 @@
+-- `spanned_in` meets its contract. Assumes nothing.
+use mathlib.Core.Path.{sym, _∙_, ap}
+use native.Mathlib.Omega.{arith}
+use borrow.Author.Needs.{needs}
+use Rattle.random.specs.GeneratorLaws.{advance-none}
+use Rattle.bounded.specs.Answers.{answeredIn}
+use Rattle.bounded.specs.AnswerLaws.{accepting-answers}
+use Rattle.spans.specs.SpanLaws.{span-none, span-whole, span-part}
+use Rattle.spans.proofs.span.spanned_in.Statement.{statement}
+use Rattle.spans.proofs.span.spanned_in.Tie as tie
+
+accept-in-requires : tie.Need-accept-in-requires
+accept-in-requires c κs = search needs
+
+returns : tie.Need-returns
+returns c = (
+  accepting-answers _ _ _ (c .accept-in .ensures) (span-none _ _ _ (c .before .if1 .taken)) (sym (advance-none _)),
+  λ z. rw (c .accept-in .ensures) (omega arith),
+)
+
+raw-in-requires : tie.Need-raw-in-requires
+raw-in-requires c κs = search needs
+
+returns-2 : tie.Need-returns-2
+returns-2 c =
+    let whole = c .before .before .if2 .taken in
+    (c .raw-in .ensures ∙ ap (answeredIn _) (sym (span-whole _ _ _ whole)), λ z. omega (arith, c .raw-in .ok))
+
+add-bounded-in : tie.Need-add-bounded-in
+add-bounded-in c = search needs
+
+bounded-in-requires : tie.Need-bounded-in-requires
+bounded-in-requires c κs = search needs
+
+returns-3 : tie.Need-returns-3
+returns-3 c =
+    let d = c .before .before in
+    (c .bounded-in .ensures .0 ∙ ap (answeredIn _) (sym (span-part _ _ _ (d .before .if1 .left) (d .if2 .left))), λ z. omega (arith, c .bounded-in .ensures .1 z))
+
+pub spanned-in-spec : {M : Type 1} → statement M
+spanned-in-spec =
+    tie.close
+    (tie.spec
+    accept-in-requires
+    returns
+    raw-in-requires
+    returns-2
+    add-bounded-in
+    bounded-in-requires
+    returns-3)

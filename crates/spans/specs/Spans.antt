@@ -1,0 +1,39 @@
+-- Numbers between two ends, both included (document 01, "Draws": `uint`, `int` and `range`), over any sequence of words.
+use mathlib.Core.Bool.{cond}
+use Prim.Native.Nat.{ℕ, _+_, _-_, _^_}
+use lib.Dec.{ltb, eqb}
+use lib.IntN.{ℤ, pos, _+ℤ_}
+use lib.Signed.{ltZ}
+use Rattle.words.specs.Refusal.{answered, order, outOfBudget}
+use Rattle.words.specs.Draw.{Words, Outcome, refused, gives, boundedBy}
+use Rattle.signed.specs.Signed.{gap}
+use Rattle.bounded.specs.Ranges.{raised}
+
+-- one raw word, which budget 0 does not allow
+unfoldable pub rawBy : Words → ℕ → Outcome
+rawBy s budget = cond (eqb budget 0) (refused outOfBudget) (gives (s 0) 1)
+
+-- a number from 0 up to `last`: "min = max use no word and answer at budget 0. Over the full span of 2^32 values they take one raw word"
+unfoldable pub spanBy : Words → ℕ → ℕ → Outcome
+spanBy s last budget =
+    cond (eqb last 0) (gives 0 0)
+    (cond (eqb last (2 ^ 32 - 1)) (rawBy s budget)
+    (boundedBy s (last + 1) budget))
+
+-- `uint`: from min up to max; "min > max" is refused
+unfoldable pub uintBy : Words → ℕ → ℕ → ℕ → Outcome
+uintBy s min max budget = cond (ltb max min) (refused order) (raised min (spanBy s (max - min) budget))
+
+-- What `int` tells: as an outcome, with a signed value.
+pub record IntOutcome : Type 0 where
+  pub refusal : ℕ
+  pub value : ℤ
+  pub used : ℕ
+
+-- an answer counted from min, as integers; a refusal has value 0
+unfoldable pub countedFrom : ℤ → Outcome → IntOutcome
+countedFrom min o = record { refusal = o .refusal; value = cond (eqb (o .refusal) answered) (min +ℤ pos (o .value)) (pos 0); used = o .used }
+
+-- `int` and `range`: from min up to max, signed; "min > max" is refused
+unfoldable pub intBy : Words → ℤ → ℤ → ℕ → IntOutcome
+intBy s min max budget = countedFrom min (cond (ltZ max min) (refused order) (spanBy s (gap min max) budget))
