@@ -39,7 +39,7 @@ module _ {a : Answer} (g : Random) (o : Outcome) (p : a ≡ answered g o) where
 -- ---- over a lent table
 
 -- what a generator is made of: an engine and a table
-abbrev engineFrom : Gen → Engine
+abbrev pub engineFrom : Gen → Engine
 engineFrom h = record { backend = h .backend; mti = h .twister .mti }
 
 pub lent-apart : (e e′ : Engine) (m m′ : List ℕ) → lent e m ≡ lent e′ m′ → (e ≡ e′) × (m ≡ m′)

@@ -1,11 +1,12 @@
 -- The definitions of Spans by their cases.
 -- Assumes nothing.
 use mathlib.Core.Path.{_≡_, refl, sym, _∙_, ap}
-use mathlib.Core.Bool.{true, false}
+use mathlib.Core.Bool.{Bool, true, false}
 use mathlib.Core.List.{List}
 use Prim.Native.Nat.{ℕ, zero, suc, _+_, _-_, _*_, _/_, _^_, _≤_, _<_}
 use native.Mathlib.Omega.{arith}
-use borrow.Author.Tests.{lt-ltb, le-ltb, eq-eqb, ne-eqb}
+use borrow.Author.Tests.{lt-ltb, le-ltb, eq-eqb, ne-eqb, eqb-true, eqb-false}
+use lib.Dec.{eqb}
 use lib.IntN.{ℤ}
 use lib.Signed.{ltZ}
 use Rattle.words.specs.Refusal.{order, outOfBudget}
@@ -60,6 +61,17 @@ module _ (s : Words) (last budget : ℕ) where
   pub span-part : (last ≡ 0 → ⊥) → (last ≡ 2 ^ 32 - 1 → ⊥) → spanBy s last budget ≡ boundedBy s (last + 1) budget
   unfolding spanBy
   span-part n e = rw (ne-eqb last 0 n, ne-eqb last (2 ^ 32 - 1) e)
+
+-- so from 0 up to `last` is the draw below last + 1, and without a draw where last is 0
+pub span-drawn : (s : Words) (last budget : ℕ) → 0 < last → spanBy s last budget ≡ boundedBy s (last + 1) budget
+span-drawn s last budget h = go (eqb last (2 ^ 32 - 1)) refl
+  where
+    go : (b : Bool) → eqb last (2 ^ 32 - 1) ≡ b → spanBy s last budget ≡ boundedBy s (last + 1) budget
+    go true e =
+        let z = eqb-true last (2 ^ 32 - 1) e in
+        let all : 2 ^ 32 ≡ last + 1 = omega arith in
+        span-whole s last budget z ∙ raw-is-bounded s budget ∙ ap (λ (r : ℕ). boundedBy s r budget) all
+    go false e = span-part s last budget (λ z. omega arith) (eqb-false last (2 ^ 32 - 1) e)
 
 -- ---- between two ends
 

@@ -30,6 +30,12 @@ pub record IntOutcome : Type 0 where
   pub value : ℤ
   pub used : ℕ
 
+abbrev pub intRefused : ℕ → IntOutcome
+intRefused number = record { refusal = number; value = pos 0; used = 0 }
+
+abbrev pub intGives : ℤ → ℕ → IntOutcome
+intGives v n = record { refusal = answered; value = v; used = n }
+
 -- an answer counted from min, as integers; a refusal has value 0
 unfoldable pub countedFrom : ℤ → Outcome → IntOutcome
 countedFrom min o = record { refusal = o .refusal; value = cond (eqb (o .refusal) answered) (min +ℤ pos (o .value)) (pos 0); used = o .used }
