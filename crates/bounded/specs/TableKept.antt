@@ -3,9 +3,7 @@
 use mathlib.Core.Path.{_≡_, refl, sym, _∙_, ap}
 use mathlib.Core.Bool.{Bool, true, false, true≢false}
 use mathlib.Core.List.{List}
-use Prim.Native.Nat.{ℕ, zero, suc}
-use borrow.Author.Tests.{ltb-true}
-use lib.Dec.{ltb}
+use Prim.Native.Nat.{ℕ, zero, suc, _<_}
 use Rattle.mersenne_twister.specs.declared.MersenneTwister as twister-type
 use Rattle.mersenne_twister.specs.DrawLaws.{in-low}
 use Rattle.random.specs.declared.backend.Backend.{Backend}
@@ -21,21 +19,14 @@ onTable MersenneTwister = true
 onTable (Pcg32 p) = false
 onTable (Pcg64 p) = false
 
--- whether the next word is ready, so that no renewal comes before it, at this position
-abbrev pub readyAt : Backend → ℕ → Bool
-readyAt (Xoshiro256PlusPlus x) p = true
-readyAt MersenneTwister p = ltb p 624
-readyAt (Pcg32 q) p = true
-readyAt (Pcg64 q) p = true
-
--- a word that is ready leaves the table
-ready-by : (b : Backend) (t : twister-type.MersenneTwister) → readyAt b (t .mti) ≡ true → stepBy b t .twister .mt ≡ t .mt
+-- a word at a position below 624 leaves it
+ready-by : (b : Backend) (t : twister-type.MersenneTwister) → t .mti < 624 → stepBy b t .twister .mt ≡ t .mt
 ready-by (Xoshiro256PlusPlus x) t h = refl
-ready-by MersenneTwister t h = ap (λ d. d .next .mt) (in-low (t .mt) (t .mti) (ltb-true (t .mti) 624 h))
+ready-by MersenneTwister t h = ap (λ d. d .next .mt) (in-low (t .mt) (t .mti) h)
 ready-by (Pcg32 p) t h = refl
 ready-by (Pcg64 p) t h = refl
 
-pub ready-keeps : {d : Drawn} (e : Engine) (m : List ℕ) → readyAt (e .backend) (e .mti) ≡ true → d ≡ drawn32 (lent e m) → d .next .twister .mt ≡ m
+pub ready-keeps : {d : Drawn} (e : Engine) (m : List ℕ) → e .mti < 624 → d ≡ drawn32 (lent e m) → d .next .twister .mt ≡ m
 unfolding step drawn32
 ready-keeps e m h q = ap (λ (d : Drawn). d .next .twister .mt) q ∙ ready-by (e .backend) (lent e m .twister) h
 

@@ -12,12 +12,12 @@ pub struct Answer {
     pub next: Random,
 }
 
-// The same over a lent table.
+// The same over a lent table. The engine stands first: so it lies aligned for its copies, which are most of a draw's time.
 pub struct EngineAnswer {
+    pub next: Engine,
     pub refusal: u32,
     pub value: u32,
     pub used: u32,
-    pub next: Engine,
 }
 
 // A refused call: its number, and the engine that came in.

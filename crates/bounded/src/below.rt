@@ -6,7 +6,7 @@ ghost use Rattle.words.specs.Draw.{boundedBy};
 ghost use Rattle.random.specs.Generator.{wordsOf};
 ghost use Rattle.random.specs.Lent.{lent};
 ghost use Rattle.bounded.specs.Answers.{wordsFrom, answered, handed, answeredIn};
-ghost use Rattle.bounded.specs.TableKept.{onTable, readyAt};
+ghost use Rattle.bounded.specs.TableKept.{onTable};
 use crate::answers::Answer;
 use crate::answers::EngineAnswer;
 use crate::answers::accept_in;
@@ -17,6 +17,9 @@ use random::Backend;
 use random::Engine;
 use random::Random;
 
+// Below this position no word renews the table, whatever the kind.
+const READY: u32 = 624;
+
 // Whether the kind draws from the table.
 fn on_table(backend: Backend) -> bool
     ensures { λ b. ⌜ b ≡ onTable backend ⌝ }
@@ -26,18 +29,6 @@ fn on_table(backend: Backend) -> bool
         Backend::MersenneTwister => true,
         Backend::Pcg32(_) => false,
         Backend::Pcg64(_) => false,
-    }
-}
-
-// Whether the next word is there without a renewal of the table.
-fn is_ready(backend: Backend, mti: u32) -> bool
-    ensures { λ b. ⌜ b ≡ readyAt backend mti ⌝ }
-{
-    match backend {
-        Backend::Xoshiro256PlusPlus(_) => true,
-        Backend::MersenneTwister => mti < 624,
-        Backend::Pcg32(_) => true,
-        Backend::Pcg64(_) => true,
     }
 }
 
@@ -84,8 +75,7 @@ pub fn bounded_in(e: Engine, mt: &mut [u32; 624], r: u32, budget: u32) -> Engine
     ensures small { λ a. ⌜ (a .refusal ≡ 0 → a .value < r) ⌝ }
 {
     if budget > 0 {
-        let backend = e.backend;
-        if is_ready(backend, e.mti) {
+        if e.mti < READY {
             let w = random::next_u32(e, mt);
             if words::is_good(w.word, r) {
                 let next = w.next;

@@ -6,12 +6,12 @@ ghost use Rattle.random.specs.Lent.{lent};
 ghost use Rattle.bounded.specs.Trying.{TriedFrom};
 use random::Engine;
 
-// Whether a word settled the draw, its value (0 where none did), the words taken, and the engine after them.
+// The engine after the words taken, whether one of them settled the draw, its value (0 where none did), and how many were taken.
 pub struct Tried {
+    pub next: Engine,
     pub found: bool,
     pub value: u32,
     pub used: u32,
-    pub next: Engine,
 }
 
 // A draw below r. It takes the words up to the good one; where none is good the whole budget, and none where r is 0.

@@ -20,10 +20,10 @@ pub struct IntAnswer {
 
 // The same over a lent table.
 pub struct IntEngineAnswer {
+    pub next: Engine,
     pub refusal: u32,
     pub value: i32,
     pub used: u32,
-    pub next: Engine,
 }
 
 // An answer counted from min; a refusal keeps value 0.

@@ -1,14 +1,10 @@
 -- `bounded_in` meets its contract: the first word where it is ready and good, and otherwise the loop on a table that is as it came. Assumes nothing.
-use mathlib.Core.Path.{sym, _∙_}
 use native.Mathlib.Omega.{arith}
 use borrow.Author.Needs.{needs}
 use Rattle.bounded.specs.AnswerLaws.{draws-first}
 use Rattle.bounded.specs.TableKept.{ready-keeps}
 use Rattle.bounded.proofs.below.bounded_in.Statement.{statement}
 use Rattle.bounded.proofs.below.bounded_in.Tie as tie
-
-is-ready-requires : tie.Need-is-ready-requires
-is-ready-requires c κs = search needs
 
 next-u32-requires : tie.Need-next-u32-requires
 next-u32-requires c κs = search needs
@@ -33,8 +29,7 @@ settle-requires c κs = search needs
 returns-2 : tie.Need-returns-2
 returns-2 c =
     let w = c .before .before .before .before in
-    let r = w .before .before in
-    let kept = ready-keeps _ _ (sym (r .before .is-ready .ensures) ∙ r .if2 .taken) (w .next-u32 .ensures) in
+    let kept = ready-keeps _ _ (w .before .before .if2 .taken) (w .next-u32 .ensures) in
     rw kept at (c .settle .ensures)
 
 settle-requires-2 : tie.Need-settle-requires-2
@@ -47,7 +42,6 @@ pub bounded-in-spec : {M : Type 1} → statement M
 bounded-in-spec =
     tie.close
     (tie.spec
-    is-ready-requires
     next-u32-requires
     is-good-requires
     quotient-requires
