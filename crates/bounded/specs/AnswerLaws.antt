@@ -36,8 +36,8 @@ pub refusing-answers : {a : EngineAnswer} {o : Outcome} {number : ℕ} (e : Engi
 unfolding answeredIn
 refusing-answers e t p q = rw (p, q, advance-none (lent e t))
 
-pub accepting-answers : {a : EngineAnswer} {o : Outcome} {v n : ℕ} (e : Engine) (t : List ℕ) (g : Gen) → a ≡ accepting v n e → o ≡ gives v n → lent e t ≡ advance n g
-    → handed a t ≡ answeredIn g o
+pub accepting-answers : {a : EngineAnswer} {o : Outcome} {v n : ℕ} (e : Engine) (t : List ℕ) (g : Gen) → a ≡ accepting v n e → o ≡ gives v n
+    → lent e t ≡ advance n g → handed a t ≡ answeredIn g o
 unfolding answeredIn
 accepting-answers e t g p q h = rw (p, q, h)
 
@@ -50,8 +50,8 @@ joined-answers g o a t h =
     rw (ap (λ (x : LentAnswer). x .refusal) h, ap (λ (x : LentAnswer). x .value) h, n, joined-later (o .used) g (a .next) t next)
 
 -- n added to an answer, where the sum has 32 bits
-pub raised-answers : {a : EngineAnswer} {t : List ℕ} (n : ℕ) (g : Gen) (o : Outcome) → handed a t ≡ answeredIn g o → (a .refusal ≡ answered → n + a .value < 2 ^ 32)
-    → handed (raisedAnswer n a) t ≡ answeredIn g (raised n o)
+pub raised-answers : {a : EngineAnswer} {t : List ℕ} (n : ℕ) (g : Gen) (o : Outcome) → handed a t ≡ answeredIn g o
+    → (a .refusal ≡ answered → n + a .value < 2 ^ 32) → handed (raisedAnswer n a) t ≡ answeredIn g (raised n o)
 unfolding raisedAnswer raised answeredIn
 raised-answers {a} {t} n g o h small = go (eqb (a .refusal) answered) refl
   where
@@ -60,7 +60,8 @@ raised-answers {a} {t} n g o h small = go (eqb (a .refusal) answered) refl
 
     go : (b : Bool) → eqb (a .refusal) answered ≡ b → handed (raisedAnswer n a) t ≡ answeredIn g (raised n o)
     go true e =
-        let v : (n + a .value) % 2 ^ 32 ≡ n + o .value = mod-eq-of-lt (small (eqb-true (a .refusal) answered e)) ∙ ap (λ (x : LentAnswer). n + x .value) h in
+        let whole = small (eqb-true (a .refusal) answered e) in
+        let v : (n + a .value) % 2 ^ 32 ≡ n + o .value = mod-eq-of-lt whole ∙ ap (λ (x : LentAnswer). n + x .value) h in
         rw (e, same e, v) (ap (λ (x : LentAnswer). record { refusal = answered; value = n + o .value; used = x .used; next = x .next }) h)
     go false e = rw (e, same e) h
 

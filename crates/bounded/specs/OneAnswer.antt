@@ -67,11 +67,14 @@ refused-unmoved-in {a} {m′} e m o p q =
 
 -- ---- a try of the loop
 
-pub one-try : {g : Gen} {r budget : ℕ} {t u : Tried} {m m′ : List ℕ} → TriedFrom g r budget t (lent (t .next) m) → TriedFrom g r budget u (lent (u .next) m′)
+pub one-try : {g : Gen} {r budget : ℕ} {t u : Tried} {m m′ : List ℕ} → TriedFrom g r budget t (lent (t .next) m)
+    → TriedFrom g r budget u (lent (u .next) m′)
     → (t ≡ u) × (m ≡ m′)
 one-try {g} {t = t} {u = u} {m} {m′} p q =
     let used : t .used ≡ u .used = p .told .taken ∙ sym (q .told .taken) in
     let (engine, table) = lent-apart (t .next) (u .next) m m′ (p .moved ∙ ap (λ (n : ℕ). advance n g) used ∙ sym (q .moved)) in
     let found = p .told .found ∙ sym (q .told .found) in
     let value = p .told .value ∙ sym (q .told .value) in
-    (ap₂ (λ (b : Bool) (v : ℕ). record { found = b; value = v; used = t .used; next = t .next }) found value ∙ ap₂ (λ (n : ℕ) (e : Engine). record { found = u .found; value = u .value; used = n; next = e }) used engine, table)
+    let first = ap₂ {C = Tried} (λ (b : Bool) (v : ℕ). record { found = b; value = v; used = t .used; next = t .next }) found value in
+    let second = ap₂ {C = Tried} (λ (n : ℕ) (e : Engine). record { found = u .found; value = u .value; used = n; next = e }) used engine in
+    (first ∙ second, table)

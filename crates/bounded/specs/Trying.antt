@@ -38,12 +38,14 @@ module _ {g : Gen} {r budget used : ℕ} {cur : Gen} (h : Trying g r budget used
   next-here e = ap (λ (d : Drawn). d .next) e ∙ ap step (h .moved) ∙ sym (advance-one used g)
 
   -- it is good and settles the draw,
-  pub trying-good : {d : Drawn} {v : ℕ} {b : Bool} (e : Engine) → used < budget → d ≡ drawn32 cur → b ≡ good r (d .word) → b ≡ true → v ≡ quotient r (d .word)
+  pub trying-good : {d : Drawn} {v : ℕ} {b : Bool} (e : Engine) → used < budget → d ≡ drawn32 cur → b ≡ good r (d .word) → b ≡ true
+      → v ≡ quotient r (d .word)
       → TriedFrom g r budget (record { found = true; value = v; used = used + 1; next = e }) (d .next)
   trying-good e u w b t q = record { told = searching-good (h .searching) u (word-here w) b t q; moved = next-here w }
 
   -- or the search goes on,
-  pub trying-bad : {d : Drawn} {b : Bool} → used < budget → d ≡ drawn32 cur → b ≡ good r (d .word) → b ≡ false → Trying g r budget (used + 1) (d .next)
+  pub trying-bad : {d : Drawn} {b : Bool} → used < budget → d ≡ drawn32 cur → b ≡ good r (d .word) → b ≡ false
+      → Trying g r budget (used + 1) (d .next)
   trying-bad u w b t = record { searching = searching-bad (h .searching) u (word-here w) b t; moved = next-here w }
 
   -- until the budget is used up.

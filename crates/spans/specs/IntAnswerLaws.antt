@@ -38,7 +38,8 @@ counted-answers {a} {t} {min} {max} g o f f′ h small = go (eqb (a .refusal) an
 
     go : (b : Bool) → eqb (a .refusal) answered ≡ b → intHanded (countedAnswer min a) t ≡ intAnsweredIn g (countedFrom min o)
     go true e =
-        let v : wrappedSum 32 min (a .value) ≡ min +ℤ pos (o .value) = sum-exact w32 min (a .value) (gap-fits f f′ (small (eqb-true (a .refusal) answered e))) ∙ ap (λ (x : LentAnswer). min +ℤ pos (x .value)) h in
+        let fits = gap-fits f f′ (small (eqb-true (a .refusal) answered e)) in
+        let v : wrappedSum 32 min (a .value) ≡ min +ℤ pos (o .value) = sum-exact w32 min (a .value) fits ∙ ap (λ (x : LentAnswer). min +ℤ pos (x .value)) h in
         rw (e, same e, v) (ap (λ (x : LentAnswer). record { refusal = x .refusal; value = min +ℤ pos (o .value); used = x .used; next = x .next }) h)
     go false e = rw (e, same e) (ap (λ (x : LentAnswer). record { refusal = x .refusal; value = pos 0; used = x .used; next = x .next }) h)
 
@@ -50,7 +51,8 @@ counted-refused {min = min} e t f p =
     (λ z. absurd (omega (arith, sym (ap (λ (x : EngineAnswer). x .refusal) p) ∙ z)))
 
 -- the engine's answer and the table, joined, are the whole generator's answer
-pub joined-int-answers : (g : Random) (o : IntOutcome) (a : IntEngineAnswer) (t : List ℕ) → intHanded a t ≡ intAnsweredIn (genOf g) o → joinedInt a t ≡ intAnswered g o
+pub joined-int-answers : (g : Random) (o : IntOutcome) (a : IntEngineAnswer) (t : List ℕ) → intHanded a t ≡ intAnsweredIn (genOf g) o
+    → joinedInt a t ≡ intAnswered g o
 unfolding intAnsweredIn intAnswered
 joined-int-answers g o a t h =
     let n : a .used ≡ o .used = ap (λ (x : IntLentAnswer). x .used) h in

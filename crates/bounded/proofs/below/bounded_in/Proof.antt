@@ -21,7 +21,9 @@ accept-in-requires c κs = search needs
 returns : tie.Need-returns
 returns c =
     let w = c .before .before .before .before .before in
-    draws-first _ _ _ (w .before .before .before .before .if1 .taken) (w .next-u32 .ensures) (omega (arith, w .next-u32 .ok)) (c .before .before .before .before .is-good .ensures) (c .before .before .before .if3 .taken) (c .before .quotient .ensures) (c .accept-in .ensures)
+    let test = c .before .before .before in
+    draws-first _ _ _ (w .before .before .before .before .if1 .taken) (w .next-u32 .ensures) (omega (arith, w .next-u32 .ok))
+    (test .before .is-good .ensures) (test .if3 .taken) (c .before .quotient .ensures) (c .accept-in .ensures)
 
 settle-requires : tie.Need-settle-requires
 settle-requires c κs = search needs

@@ -39,7 +39,8 @@ returns-2 c =
     let d = c .before .before .before .before in
     let l = d .before .before .before in
     let pos : 0 < l .before .before .args .r = omega (arith, l .before .if1 .left) in (
-      trying-good (l .loop .inv) _ (d .before .before .loop-test .taken) (d .next-u32 .ensures) (c .before .before .is-good .ensures) (c .before .if2 .taken) (c .quotient .ensures),
+      trying-good (l .loop .inv) _ (d .before .before .loop-test .taken) (d .next-u32 .ensures)
+          (c .before .before .is-good .ensures) (c .before .if2 .taken) (c .quotient .ensures),
       λ q. rw (c .quotient .ensures) (quotient-below _ _ pos (omega (arith, d .next-u32 .ok))),
     )
 
