@@ -12,3 +12,5 @@ pub mod Trying
 pub mod TableKept
 pub mod AnswerLaws
 pub mod RangeLaws
+-- The list limit.
+pub mod Limit

@@ -3,6 +3,7 @@
 mod answers;
 mod below;
 mod draw;
+pub mod limit;
 mod ranges;
 
 pub use answers::Answer;
