@@ -7,7 +7,7 @@ use native.Mathlib.Nat.{lt-of-not-le}
 use Prim.Native.Nat.{ℕ, zero, suc, _≤_, _<_}
 use native.Mathlib.Omega.{arith}
 use borrow.Author.Tests.{lt-ltb, le-ltb, eq-eqb, ne-eqb}
-use Rattle.words.specs.Refusal.{answered, empty, tooLong}
+use Rattle.words.specs.Refusal.{answered, empty, tooLong, outOfBudget}
 use Rattle.words.specs.Refusal as refusal
 use Rattle.bounded.specs.Limit.{listLimit}
 use Rattle.lists.specs.Checks.{listRefusal, windowRefusal, firstOf, sliceRefusal}
@@ -68,6 +68,15 @@ module _ {n : ℕ} where
       only-if (is-empty z) e = absurd (omega arith)
       only-if (too-long h) e = absurd (omega arith)
       only-if (allowed p h) e = (p, h)
+
+-- a check never gives the number that a draw may come to
+pub list-not-short : (n : ℕ) → listRefusal n ≡ outOfBudget → ⊥
+list-not-short n = go list-is
+  where
+    go : {number : ℕ} → OfList n number → number ≡ outOfBudget → ⊥
+    go (is-empty z) e = absurd (omega arith)
+    go (too-long h) e = absurd (omega arith)
+    go (allowed p h) e = absurd (omega arith)
 
 -- ---- the window
 
@@ -187,3 +196,12 @@ module _ (n window : ℕ) where
       only-if (too-long h) e = absurd (omega arith)
       only-if (bad-window p h w) e = absurd (omega arith)
       only-if (allowed p h q w) e = (h, q, w)
+
+  pub slice-not-short : sliceRefusal n window ≡ outOfBudget → ⊥
+  slice-not-short = go slice-is
+    where
+      go : {number : ℕ} → OfSlice n window number → number ≡ outOfBudget → ⊥
+      go (is-empty z) e = absurd (omega arith)
+      go (too-long h) e = absurd (omega arith)
+      go (bad-window p h w) e = absurd (omega arith)
+      go (allowed p h q w) e = absurd (omega arith)

@@ -34,6 +34,10 @@ entryOf list o = record {
   used = o .used;
 }
 
+-- a refused choice
+abbrev pub noChoice : ℕ → Choice
+noChoice number = record { refusal = number; place = 0; value = 0; used = 0 }
+
 unfoldable pub chooseBy : Words → List ℕ → ℕ → Choice
 chooseBy s list budget = entryOf list (placeBy s (length list) budget)
 

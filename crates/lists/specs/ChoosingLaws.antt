@@ -1,6 +1,6 @@
 -- What the code of `choose` builds is the answer of its definition.
 -- Assumes nothing.
-use mathlib.Core.Path.{_≡_, sym, ap}
+use mathlib.Core.Path.{_≡_, ap}
 use mathlib.Core.List.{List}
 use Prim.Native.Nat.{ℕ}
 use borrow.Author.Tests.{eq-eqb, ne-eqb}
@@ -16,7 +16,6 @@ use Rattle.random.specs.Words.{joinedWith}
 use Rattle.random.specs.WordsLaws.{joined-later}
 use Rattle.bounded.specs.declared.answers.EngineAnswer.{EngineAnswer}
 use Rattle.bounded.specs.Answers.{LentAnswer, handed, answeredIn}
-use Rattle.lists.specs.declared.places.Chosen.{Chosen}
 use Rattle.lists.specs.declared.places.EngineChosen.{EngineChosen}
 use Rattle.lists.specs.Choosing.{Choice, entryOf, chosenBy, LentChoice, handedChoice, chosenIn}
 

@@ -13,7 +13,6 @@ use Rattle.random.specs.Words.{joinedWith}
 use Rattle.bounded.specs.declared.answers.Answer.{Answer}
 use Rattle.bounded.specs.Answers.{answered, handed, answeredIn}
 use Rattle.bounded.specs.AnswerLaws.{joined-answers}
-use Rattle.lists.specs.declared.windows.SliceStart.{SliceStart}
 use Rattle.lists.specs.declared.windows.EngineSliceStart.{EngineSliceStart}
 use Rattle.lists.specs.Slicing.{startedBy, startAnswer, partOf}
 

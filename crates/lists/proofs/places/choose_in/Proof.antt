@@ -1,5 +1,4 @@
 -- `choose_in` meets its contract: the place drawn, and the entry there. Assumes nothing.
-use native.Mathlib.Omega.{arith}
 use borrow.Author.Needs.{needs}
 use Rattle.lists.specs.Choosing.{chooseBy}
 use Rattle.lists.specs.ChoosingLaws.{entry-answers, no-entry-answers}

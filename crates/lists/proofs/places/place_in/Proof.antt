@@ -4,7 +4,7 @@ use native.Mathlib.Omega.{arith}
 use borrow.Author.Needs.{needs}
 use Rattle.lists.specs.CheckLaws.{list-allowed-exactly-if}
 use Rattle.lists.specs.Choosing.{placeBy}
-use Rattle.lists.specs.UnlessLaws.{passed-answers, refused-answers}
+use Rattle.lists.specs.CheckedAnswers.{passed-answers, refused-answers}
 use Rattle.lists.proofs.places.place_in.Statement.{statement}
 use Rattle.lists.proofs.places.place_in.Tie as tie
 

@@ -7,7 +7,7 @@ use Rattle.bounded.specs.Limit.{listLimit}
 use Rattle.lists.specs.Checks.{sliceRefusal}
 use Rattle.lists.specs.CheckLaws.{slice-allowed-exactly-if}
 use Rattle.lists.specs.Slicing.{sliceBy}
-use Rattle.lists.specs.UnlessLaws.{passed-answers, refused-answers}
+use Rattle.lists.specs.CheckedAnswers.{passed-answers, refused-answers}
 use Rattle.lists.proofs.windows.start_in.Statement.{statement}
 use Rattle.lists.proofs.windows.start_in.Tie as tie
 

@@ -1,25 +1,19 @@
--- A draw below r after a check of the arguments: which outcomes it may have, said as a relation; that it is a budgeted call; and what the code
--- builds for it.
+-- A draw below r after a check of the arguments, as `choose` and `rand_slice` are: that it is a budgeted call; which outcomes it may have, said
+-- as a relation; and when each comes.
 -- Assumes nothing.
 use mathlib.Core.Path.{_≡_, refl, sym, _∙_, ap}
 use mathlib.Core.Bool.{Bool, true, false}
-use mathlib.Core.List.{List}
 use mathlib.Core.Logic.{_↔_}
-use Prim.Native.Nat.{ℕ, zero, suc, _+_, _≤_, _<_}
+use Prim.Native.Nat.{ℕ, _+_, _<_}
 use native.Mathlib.Omega.{arith}
 use borrow.Author.Tests.{eqb-true, eqb-false, eq-eqb, ne-eqb}
 use lib.Dec.{eqb}
 use Rattle.words.specs.Refusal.{answered, outOfBudget}
 use Rattle.words.specs.Draw.{Words, quotient, Outcome, refused, gives, boundedBy}
 use Rattle.words.specs.GoodWord.{FirstGood, NoneGood}
+use Rattle.words.specs.BelowItsBound.{WordSized, first-below}
 use Rattle.words.specs.OneOutcome.{Bounded, zero-range, bounded-is, bounded-only}
 use Rattle.words.specs.OneOutcome as one
-use Rattle.random.specs.declared.engine.Engine.{Engine}
-use Rattle.random.specs.Generator.{Gen}
-use Rattle.random.specs.Lent.{lent}
-use Rattle.bounded.specs.declared.answers.EngineAnswer.{EngineAnswer}
-use Rattle.bounded.specs.Answers.{handed, answeredIn, refusing}
-use Rattle.bounded.specs.AnswerLaws.{refusing-answers}
 use Rattle.bounded.specs.Budgeted.{Budgeted, checked-budgeted}
 use Rattle.lists.specs.Checks.{unless}
 
@@ -65,15 +59,46 @@ module _ (number : ℕ) (s : Words) (r budget : ℕ) (pos : number ≡ answered 
   unless-only (answers k z f) = unless-passed number (boundedBy s r budget) z ∙ bounded-only s r budget (one.answers k (pos z) f)
   unless-only (out-of-budget z f) = unless-passed number (boundedBy s r budget) z ∙ bounded-only s r budget (one.out-of-budget (pos z) f)
 
--- ---- what the code builds, over a lent table, once it has worked the number out
+  -- refused by the check,
+  pub checked-exactly-if : (m : ℕ) → (m ≡ answered → ⊥) → (m ≡ outOfBudget → ⊥) → (unless number (boundedBy s r budget) .refusal ≡ m) ↔ (number ≡ m)
+  checked-exactly-if m some other = (only-if unless-is, λ e. ap (λ (o : Outcome). o .refusal) (unless-only (refuses (λ z. some (sym e ∙ z)))) ∙ e)
+    where
+      only-if : {o : Outcome} → Unless number s r budget o → o .refusal ≡ m → number ≡ m
+      only-if (refuses h) e = e
+      only-if (answers k z f) e = absurd (some (sym e))
+      only-if (out-of-budget z f) e = absurd (other (sym e))
 
-module _ {number checked : ℕ} (o : Outcome) (told : number ≡ checked) where
-  pub passed-answers : {a : EngineAnswer} {m : List ℕ} (g : Gen) → number ≡ answered → handed a m ≡ answeredIn g o → handed a m ≡ answeredIn g (unless checked o)
-  passed-answers g z h = rw (unless-passed checked o (sym told ∙ z)) h
+  -- out of budget, "8 last",
+  pub short-exactly-if : (number ≡ outOfBudget → ⊥)
+      → (unless number (boundedBy s r budget) .refusal ≡ outOfBudget) ↔ ((number ≡ answered) × NoneGood s r budget)
+  short-exactly-if other = (only-if unless-is, λ h. ap (λ (o : Outcome). o .refusal) (unless-only (out-of-budget (h .0) (h .1))))
+    where
+      only-if : {o : Outcome} → Unless number s r budget o → o .refusal ≡ outOfBudget → (number ≡ answered) × NoneGood s r budget
+      only-if (refuses h) e = absurd (other e)
+      only-if (answers k z f) e = absurd (omega arith)
+      only-if (out-of-budget z f) e = (z, f)
 
-  pub refused-answers : {a : EngineAnswer} (e : Engine) (m : List ℕ) → (number ≡ answered → ⊥) → a ≡ refusing number e
-      → (handed a m ≡ answeredIn (lent e m) (unless checked o)) × (a .refusal ≡ answered → ⊥)
-  refused-answers {a} e m h p = (
-    refusing-answers e m p (unless-refuses checked o (λ z. h (told ∙ z)) ∙ ap refused (sym told)),
-    λ z. h (sym (ap (λ (x : EngineAnswer). x .refusal) p) ∙ z),
-  )
+  -- or answered, where the check passed, with a value below r, by a word at least.
+  pub answered-passed : unless number (boundedBy s r budget) .refusal ≡ answered → number ≡ answered
+  answered-passed = go unless-is
+    where
+      go : {o : Outcome} → Unless number s r budget o → o .refusal ≡ answered → number ≡ answered
+      go (refuses h) e = e
+      go (answers k z f) e = z
+      go (out-of-budget z f) e = z
+
+  pub answered-below : WordSized s → unless number (boundedBy s r budget) .refusal ≡ answered → unless number (boundedBy s r budget) .value < r
+  answered-below sized = go unless-is
+    where
+      go : {o : Outcome} → Unless number s r budget o → o .refusal ≡ answered → o .value < r
+      go (refuses h) e = absurd (h e)
+      go (answers k z f) e = first-below sized f
+      go (out-of-budget z f) e = absurd (omega arith)
+
+  pub answered-uses-a-word : unless number (boundedBy s r budget) .refusal ≡ answered → 0 < unless number (boundedBy s r budget) .used
+  answered-uses-a-word = go unless-is
+    where
+      go : {o : Outcome} → Unless number s r budget o → o .refusal ≡ answered → 0 < o .used
+      go (refuses h) e = absurd (h e)
+      go (answers k z f) e = omega arith
+      go (out-of-budget z f) e = absurd (omega arith)
