@@ -34,7 +34,9 @@ fn start_in(e: Engine, mt: &mut [u32; 624], n: usize, window: usize, budget: u32
     ensures answer { λ a. ⌜ handed a (now (mt .exit)) ≡ answeredIn (lent e (now (mt .entry))) (sliceBy (wordsOf (lent e (now (mt .entry)))) n window budget) ⌝ }
     ensures room { λ a. ⌜ (a .refusal ≡ 0 → a .value + window ≤ n) ⌝ }
 {
-    let number = first_of(list_refusal(n), window_refusal(n, window));
+    let of_list = list_refusal(n);
+    let of_window = window_refusal(n, window);
+    let number = first_of(of_list, of_window);
     if number == words::refusal::ANSWERED {
         return bounded::bounded_in(e, mt, (n - window + 1) as u32, budget);
     }

@@ -1,4 +1,5 @@
 -- `choose_in` meets its contract: the place drawn, and the entry there. Assumes nothing.
+use native.Mathlib.Omega.{arith}
 use borrow.Author.Needs.{needs}
 use Rattle.lists.specs.Choosing.{chooseBy}
 use Rattle.lists.specs.ChoosingLaws.{entry-answers, no-entry-answers}
@@ -15,7 +16,7 @@ mul-value : tie.Need-mul-value
 mul-value c = search needs
 
 shared-slice-read-value : tie.Need-shared-slice-read-value
-shared-slice-read-value c = c .before .before .before .before .before .place-in .ensures .1 (c .before .if1 .taken)
+shared-slice-read-value c = omega (arith, c .before .before .before .before .before .place-in .ensures .1 (c .before .if1 .taken))
 
 returns : tie.Need-returns
 unfolding chooseBy
