@@ -1,7 +1,7 @@
 -- The laws of answers: what the code builds is the answer of an outcome.
 -- Assumes nothing.
 use mathlib.Core.Path.{_≡_, refl, sym, _∙_, ap}
-use mathlib.Core.Bool.{Bool, true, false, cond}
+use mathlib.Core.Bool.{Bool, true, false}
 use mathlib.Core.List.{List}
 use Prim.Native.Nat.{ℕ, _+_, _%_, _^_, _<_}
 use native.Mathlib.Omega.{arith}
@@ -12,19 +12,18 @@ use Rattle.words.specs.Refusal.{answered, zeroRange, outOfBudget}
 use Rattle.words.specs.Draw.{good, quotient, Outcome, refused, gives, boundedBy}
 use Rattle.words.specs.GoodWord.{good-passes, passes-positive}
 use Rattle.words.specs.BelowItsBound.{quotient-below}
-use Rattle.words.specs.DrawLoop.{Told, told-answers, told-refuses}
+use Rattle.words.specs.DrawLoop.{told-answers, told-refuses}
 use Rattle.words.specs.OneOutcome.{zero-range, bounded-only}
 use Rattle.random.specs.declared.backend.Random.{Random}
 use Rattle.random.specs.declared.engine.Engine.{Engine}
 use Rattle.random.specs.declared.engine.EngineWord.{EngineWord}
-use Rattle.random.specs.Generator.{Gen, genOf, advance, wordsOf, Drawn, drawn32}
+use Rattle.random.specs.Generator.{Gen, genOf, advance, wordsOf, drawn32}
 use Rattle.random.specs.GeneratorLaws.{advance-none}
 use Rattle.random.specs.Lent.{lent, given}
-use Rattle.random.specs.Words.{later}
 use Rattle.random.specs.WordsLaws.{joined-later}
 use Rattle.bounded.specs.declared.answers.EngineAnswer.{EngineAnswer}
 use Rattle.bounded.specs.declared.draw.Tried.{Tried}
-use Rattle.bounded.specs.Answers.{LentAnswer, handed, answeredIn, joinedAnswer, refusing, accepting, raisedAnswer}
+use Rattle.bounded.specs.Answers.{LentAnswer, handed, answeredIn, joinedAnswer, Below, refusing, accepting, raisedAnswer}
 use Rattle.bounded.specs.Ranges.{raised}
 use Rattle.bounded.specs.Answers as answers
 use Rattle.bounded.specs.Trying.{TriedFrom, trying-start, trying-good}
@@ -68,9 +67,9 @@ raised-answers {a} {t} n g o h small = go (eqb (a .refusal) answered) refl
 -- ---- a draw below r over a lent table: what it owes, by its ways out
 
 abbrev pub Draws : Gen → ℕ → ℕ → EngineAnswer → List ℕ → Type 0
-Draws g r budget a m = (handed a m ≡ answeredIn g (boundedBy (wordsOf g) r budget)) × (a .refusal ≡ answered → a .value < r)
+Draws g r budget a m = (handed a m ≡ answeredIn g (boundedBy (wordsOf g) r budget)) × Below r a
 
-no-value : {a : EngineAnswer} {e : Engine} (r number : ℕ) → 0 < number → a ≡ refusing number e → a .refusal ≡ answered → a .value < r
+no-value : {a : EngineAnswer} {e : Engine} (r number : ℕ) → 0 < number → a ≡ refusing number e → Below r a
 no-value r number p q z = absurd (omega (arith, sym (ap (λ (x : EngineAnswer). x .refusal) q) ∙ z))
 
 -- r is 0,

@@ -2,7 +2,8 @@
 -- generator after the words used. A refusal has used none, so its generator is the one that came in. No other file names the whole generator.
 use mathlib.Core.Bool.{cond}
 use mathlib.Core.List.{List}
-use Prim.Native.Nat.{ℕ, _+_, _%_, _^_}
+use mathlib.Core.Path.{_≡_}
+use Prim.Native.Nat.{ℕ, _+_, _%_, _^_, _<_}
 use lib.Dec.{eqb}
 use Rattle.words.specs.Draw.{Words, Outcome}
 use Rattle.words.specs.Refusal as refusal
@@ -39,6 +40,10 @@ handed a t = record { refusal = a .refusal; value = a .value; used = a .used; ne
 
 unfoldable pub answeredIn : Gen → Outcome → LentAnswer
 answeredIn g o = record { refusal = o .refusal; value = o .value; used = o .used; next = advance (o .used) g }
+
+-- where it is answered, its value is below r
+abbrev pub Below : ℕ → EngineAnswer → Type 0
+Below r a = a .refusal ≡ refusal.answered → a .value < r
 
 -- ---- what the code builds: a refusal, an answer, and either with the table joined to it
 

@@ -1,12 +1,11 @@
 -- What every answer's promise fixes, whatever the outcome: the next generator is the old one after the words used, and two answers that meet one
 -- promise are the same, over a lent table the tables too.
 -- Assumes nothing.
-use mathlib.Core.Path.{_≡_, refl, sym, _∙_, ap, ap₂}
+use mathlib.Core.Path.{_≡_, sym, _∙_, ap, ap₂}
 use mathlib.Core.Bool.{Bool}
 use mathlib.Core.List.{List}
 use Prim.Native.Nat.{ℕ}
 use Rattle.words.specs.Draw.{Outcome, refused}
-use Rattle.words.specs.DrawLoop.{Told}
 use Rattle.random.specs.declared.backend.Random.{Random}
 use Rattle.random.specs.declared.engine.Engine.{Engine}
 use Rattle.random.specs.Generator.{Gen, advance}

@@ -1,6 +1,6 @@
 -- A draw below r from a generator, one word after the other: what a try tells, and the loop that makes it, with one law for each way through.
 -- Assumes nothing.
-use mathlib.Core.Path.{_≡_, refl, sym, _∙_, ap}
+use mathlib.Core.Path.{_≡_, sym, _∙_, ap}
 use mathlib.Core.Bool.{Bool, true, false}
 use Prim.Native.Nat.{ℕ, _+_, _≤_, _<_}
 use Rattle.words.specs.Draw.{good, quotient}

@@ -5,7 +5,7 @@ ghost use Prim.Native.Nat.{_<_};
 ghost use Rattle.words.specs.Draw.{boundedBy};
 ghost use Rattle.random.specs.Generator.{wordsOf};
 ghost use Rattle.random.specs.Lent.{lent};
-ghost use Rattle.bounded.specs.Answers.{wordsFrom, answered, handed, answeredIn};
+ghost use Rattle.bounded.specs.Answers.{wordsFrom, answered, handed, answeredIn, Below};
 ghost use Rattle.bounded.specs.TableKept.{onTable};
 use crate::answers::Answer;
 use crate::answers::EngineAnswer;
@@ -36,7 +36,7 @@ fn on_table(backend: Backend) -> bool
 fn settle_on_copy(e: Engine, mt: &mut [u32; 624], r: u32, budget: u32) -> EngineAnswer
     requires { ⌜ 0 < r ⌝ }
     ensures answer { λ a. ⌜ handed a (now (mt .exit)) ≡ answeredIn (lent e (now (mt .entry))) (boundedBy (wordsOf (lent e (now (mt .entry)))) r budget) ⌝ }
-    ensures small { λ a. ⌜ (a .refusal ≡ 0 → a .value < r) ⌝ }
+    ensures small { λ a. ⌜ Below r a ⌝ }
 {
     let mut copy = *mt;
     let t = draw_in(e, &mut copy, r, budget);
@@ -52,7 +52,7 @@ fn settle_on_copy(e: Engine, mt: &mut [u32; 624], r: u32, budget: u32) -> Engine
 // The draw by the loop.
 fn settle(e: Engine, mt: &mut [u32; 624], r: u32, budget: u32) -> EngineAnswer
     ensures answer { λ a. ⌜ handed a (now (mt .exit)) ≡ answeredIn (lent e (now (mt .entry))) (boundedBy (wordsOf (lent e (now (mt .entry)))) r budget) ⌝ }
-    ensures small { λ a. ⌜ (a .refusal ≡ 0 → a .value < r) ⌝ }
+    ensures small { λ a. ⌜ Below r a ⌝ }
 {
     if r == 0 {
         return refuse_in(words::refusal::ZERO_RANGE, e);
@@ -72,7 +72,7 @@ fn settle(e: Engine, mt: &mut [u32; 624], r: u32, budget: u32) -> EngineAnswer
 // A number below r. Where it is refused the table is as it came.
 pub fn bounded_in(e: Engine, mt: &mut [u32; 624], r: u32, budget: u32) -> EngineAnswer
     ensures answer { λ a. ⌜ handed a (now (mt .exit)) ≡ answeredIn (lent e (now (mt .entry))) (boundedBy (wordsOf (lent e (now (mt .entry)))) r budget) ⌝ }
-    ensures small { λ a. ⌜ (a .refusal ≡ 0 → a .value < r) ⌝ }
+    ensures small { λ a. ⌜ Below r a ⌝ }
 {
     if budget > 0 {
         if e.mti < READY {

@@ -1,22 +1,22 @@
 -- `uint`, `int` and `range` are budgeted calls: "a larger budget never changes an answer given" (the order, demand 3), a refusal tells its number
 -- alone, and the words used are within the budget.
 -- Assumes nothing.
-use mathlib.Core.Path.{_≡_, refl, sym, _∙_, ap, subst, fun-ext}
-use mathlib.Core.Bool.{Bool, true, false, cond}
+use mathlib.Core.Path.{_≡_, refl, sym, ap, subst, fun-ext}
+use mathlib.Core.Bool.{cond}
 use Prim.Native.Nat.{ℕ, zero, suc, _+_, _-_, _≤_}
 use native.Mathlib.Omega.{arith}
 use borrow.Author.Tests.{ne-eqb}
-use lib.Dec.{ltb, eqb}
-use lib.IntN.{ℤ, pos}
+use lib.Dec.{ltb}
+use lib.IntN.{ℤ}
 use lib.Signed.{ltZ}
 use Rattle.words.specs.Refusal.{answered, order}
-use Rattle.words.specs.Draw.{Words, Outcome, refused, gives, boundedBy}
+use Rattle.words.specs.Draw.{Words, Outcome, refused}
 use Rattle.signed.specs.Signed.{gap}
 use Rattle.random.specs.declared.backend.Random.{Random}
 use Rattle.random.specs.Generator.{Gen, wordsOf}
 use Rattle.bounded.specs.Answers.{wordsFrom}
 use Rattle.bounded.specs.Budgeted.{Budgeted, bounded-budgeted, raised-budgeted, checked-budgeted}
-use Rattle.spans.specs.Spans.{spanBy, uintBy, IntOutcome, intRefused, countedFrom, intBy}
+use Rattle.spans.specs.Spans.{spanBy, uintBy, intRefused, countedFrom, intBy}
 use Rattle.spans.specs.IntAnswers.{intAnswered, intAnsweredIn}
 use Rattle.spans.specs.SpanLaws.{span-none, span-drawn}
 

@@ -1,8 +1,8 @@
 -- Exactly one outcome for `uint`, `int` and `range`, said as a relation in document 01's words: when each is refused, and with which number; and
 -- that an answer lies between the two ends.
 -- Assumes nothing.
-use mathlib.Core.Path.{_≡_, refl, sym, _∙_, ap}
-use mathlib.Core.Bool.{Bool, true, false, true≢false}
+use mathlib.Core.Path.{_≡_, refl, _∙_, ap}
+use mathlib.Core.Bool.{Bool, true, false}
 use mathlib.Core.Logic.{_↔_}
 use Prim.Native.Nat.{ℕ, zero, suc, _+_, _-_, _^_, _≤_, _<_}
 use native.Mathlib.Decide.{decLe}
@@ -11,7 +11,7 @@ use native.Mathlib.Omega.{arith}
 use lib.IntN.{ℤ, pos, _+ℤ_}
 use lib.Signed.{ltZ, _≤ℤ_}
 use Rattle.words.specs.Refusal.{answered, order, outOfBudget}
-use Rattle.words.specs.Draw.{Words, quotient, Outcome, refused, gives, boundedBy}
+use Rattle.words.specs.Draw.{Words, quotient, Outcome, refused, gives}
 use Rattle.words.specs.GoodWord.{FirstGood, NoneGood}
 use Rattle.words.specs.BelowItsBound.{WordSized, first-below}
 use Rattle.words.specs.OneOutcome as one
@@ -19,7 +19,7 @@ use Rattle.signed.specs.Signed.{gap}
 use Rattle.signed.specs.GapLaws.{gap-least, gap-most}
 use Rattle.bounded.specs.Ranges.{raised}
 use Rattle.bounded.specs.Budgeted.{raised-answered, raised-refused}
-use Rattle.spans.specs.Spans.{rawBy, spanBy, uintBy, IntOutcome, intRefused, intGives, countedFrom, intBy}
+use Rattle.spans.specs.Spans.{spanBy, uintBy, IntOutcome, intRefused, intGives, countedFrom, intBy}
 use Rattle.spans.specs.SpanLaws.{span-none, span-whole, span-drawn, raw-word, raw-short, uint-order, uint-drawn, int-order, int-drawn}
 
 -- ---- from 0 up to `last`: one number takes no word, and the others are the first good word's, below last + 1

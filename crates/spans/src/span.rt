@@ -1,6 +1,7 @@
 // A number from 0 up to a last one, which may be the largest of 32 bits.
 ghost use mathlib.Core.Path.{_≡_};
 ghost use Prim.Native.Nat.{_≤_};
+ghost use Rattle.words.specs.Refusal.{answered};
 ghost use Rattle.random.specs.Generator.{wordsOf};
 ghost use Rattle.random.specs.Lent.{lent};
 ghost use Rattle.bounded.specs.Answers.{handed, answeredIn};
@@ -23,7 +24,7 @@ fn raw_in(e: Engine, mt: &mut [u32; 624], budget: u32) -> EngineAnswer
 // A number from 0 up to `last`: 0 takes no word, and the largest `last` one raw word.
 pub fn spanned_in(e: Engine, mt: &mut [u32; 624], last: u32, budget: u32) -> EngineAnswer
     ensures answer { λ a. ⌜ handed a (now (mt .exit)) ≡ answeredIn (lent e (now (mt .entry))) (spanBy (wordsOf (lent e (now (mt .entry)))) last budget) ⌝ }
-    ensures small { λ a. ⌜ (a .refusal ≡ 0 → a .value ≤ last) ⌝ }
+    ensures small { λ a. ⌜ (a .refusal ≡ answered → a .value ≤ last) ⌝ }
 {
     if last == 0 {
         return bounded::accept_in(0, 0, e);
