@@ -3,9 +3,11 @@
 use mathlib.Core.Path.{_≡_, refl}
 use Prim.Native.Nat.{ℕ}
 use mathlib.Core.Bool.{Bool, true, false}
+use mathlib.Core.List.{List, [], _∷_}
 use lib.IntN.{pos, negsuc}
 use lib.Ieee.{Float, fin, binary64, ofBits, add, sub, mul, le, lt}
 use Rattle.words.specs.Refusal.{order, chance, notFinite}
+use Rattle.words.specs.Table.{Row, Holds, end, _&_}
 use Rattle.floats.specs.Units.{dyadic, floatOf, doubleOf}
 use Rattle.floats.specs.Chances.{isChance, coinOf}
 use Rattle.floats.specs.Intervals.{intervalRefusal, numberIn, uniformOf}
@@ -13,14 +15,22 @@ use Rattle.floats.specs.declared.chances.Coin.{Coin}
 use Rattle.floats.specs.declared.intervals.Interval.{Interval}
 use Rattle.floats.specs.declared.intervals.Uniform.the-variants.{Number, Refused}
 
+-- a row: the float that a word gives
+abbrev pub float : Float → Float → Row
+float gives says = record { Kind = Float; gives = gives; says = says }
+
 -- the marked rows: 2 ^ -24 is 1 * 2 ^ -(23 + 1), and 2 ^ -53 is 1 * 2 ^ -(52 + 1)
-pub marked :
-    (floatOf 0xFF ≡ fin false 0 (pos 0))
-    × (floatOf 0x100 ≡ fin false 1 (negsuc 23))
-    × (doubleOf 0x7FF ≡ fin false 0 (pos 0))
-    × (doubleOf 0x800 ≡ fin false 1 (negsuc 52))
+abbrev pub floatBench : List Row
+floatBench =
+    float (floatOf 0xFF) (fin false 0 (pos 0))
+    ∷ float (floatOf 0x100) (fin false 1 (negsuc 23))
+    ∷ float (doubleOf 0x7FF) (fin false 0 (pos 0))
+    ∷ float (doubleOf 0x800) (fin false 1 (negsuc 52))
+    ∷ []
+
+pub float-bench-holds : Holds floatBench
 unfolding dyadic
-marked = (refl, refl, refl, refl)
+float-bench-holds = refl & refl & refl & refl & end
 
 -- ---- the others, by bit patterns
 abbrev f64 : ℕ → Float

@@ -1,0 +1,2 @@
+-- The marked bench examples, in one table.
+pub mod BenchTable
