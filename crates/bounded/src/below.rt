@@ -21,7 +21,7 @@ use random::Random;
 const READY: u32 = 624;
 
 // Whether the kind draws from the table.
-fn on_table(backend: Backend) -> bool
+pub fn on_table(backend: Backend) -> bool
     ensures { λ b. ⌜ b ≡ onTable backend ⌝ }
 {
     match backend {

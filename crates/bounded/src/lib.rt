@@ -14,6 +14,7 @@ pub use answers::raise_in;
 pub use answers::refuse_in;
 pub use below::bounded;
 pub use below::bounded_in;
+pub use below::on_table;
 pub use draw::Tried;
 pub use draw::draw_in;
 pub use ranges::char;

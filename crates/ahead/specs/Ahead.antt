@@ -1,0 +1,43 @@
+-- The next words of a generator, put into a block from its first entry on.
+-- Assumes nothing.
+use mathlib.Core.Path.{_≡_}
+use mathlib.Core.Bool.{cond}
+use mathlib.Core.List.{List}
+use Prim.Native.Nat.{ℕ, zero, suc}
+use lib.Dec.{ltb}
+use lib.ListN.{set}
+use Rattle.words.specs.Draw.{Words}
+use Rattle.mersenne_twister.specs.declared.MersenneTwister as twister-type
+use Rattle.mersenne_twister.specs.Table.{held}
+use Rattle.pcg.specs.declared.pcg32.Pcg32 as pcg32-type
+use Rattle.pcg.specs.declared.pcg64.Pcg64 as pcg64-type
+use Rattle.xoshiro.specs.declared.Xoshiro256PlusPlus as xoshiro-type
+use Rattle.random.specs.declared.backend.Backend.the-variants.{Xoshiro256PlusPlus, MersenneTwister, Pcg32, Pcg64}
+use Rattle.random.specs.Generator.{Gen, gen, advance, wordsOf}
+
+-- how many words a block takes, where n are asked for
+abbrev pub atMost : ℕ → ℕ
+atMost n = cond (ltb n 16) n 16
+
+-- a block with the first n words of a sequence in its first entries
+unfoldable pub placed : Words → ℕ → List ℕ → List ℕ
+placed s zero l = l
+placed s (suc n) l = set (placed s n l) n (s n)
+
+-- n words of the generator g were put into the block l, which became l′, and h is the generator after them.
+pub record WordsPut (g : Gen) (n : ℕ) (l l′ : List ℕ) (h : Gen) : Type 0 where
+  pub words : l′ ≡ placed (wordsOf g) n l
+  pub moved : h ≡ advance n g
+
+-- The same of each kind. The twister beside another kind may be any.
+abbrev pub XoshiroPut : xoshiro-type.Xoshiro256PlusPlus → ℕ → List ℕ → List ℕ → xoshiro-type.Xoshiro256PlusPlus → Type 0
+XoshiroPut x n l l′ y = (t : twister-type.MersenneTwister) → WordsPut (gen (Xoshiro256PlusPlus x) t) n l l′ (gen (Xoshiro256PlusPlus y) t)
+
+abbrev pub Pcg32Put : pcg32-type.Pcg32 → ℕ → List ℕ → List ℕ → pcg32-type.Pcg32 → Type 0
+Pcg32Put p n l l′ q = (t : twister-type.MersenneTwister) → WordsPut (gen (Pcg32 p) t) n l l′ (gen (Pcg32 q) t)
+
+abbrev pub Pcg64Put : pcg64-type.Pcg64 → ℕ → List ℕ → List ℕ → pcg64-type.Pcg64 → Type 0
+Pcg64Put p n l l′ q = (t : twister-type.MersenneTwister) → WordsPut (gen (Pcg64 p) t) n l l′ (gen (Pcg64 q) t)
+
+abbrev pub TwisterPut : List ℕ → ℕ → ℕ → List ℕ → List ℕ → List ℕ → ℕ → Type 0
+TwisterPut m p n l l′ m′ p′ = WordsPut (gen MersenneTwister (held m p)) n l l′ (gen MersenneTwister (held m′ p′))

@@ -1,0 +1,36 @@
+-- "A shuffle obeys this draw after draw under one budget" (the order, demand 3), place by place: the place i draws below i + 1, from the word just past
+-- those of the places above it and with the budget that they left, and draws no place above i.
+-- Assumes nothing.
+use mathlib.Core.Path.{_≡_, refl, sym, _∙_, ap}
+use mathlib.Core.Bool.{true}
+use mathlib.Core.List.{List, _∷_, _++_}
+use Prim.Native.Nat.{ℕ, zero, suc, _+_, _-_, _≤_, _<_}
+use native.Mathlib.Omega.{arith}
+use lib.ListN.{length, getD}
+use Rattle.words.specs.Draw.{Words, all, draws}
+use Rattle.words.specs.EachInTurn.{InTurn, each-in-turn}
+use Rattle.words.specs.BelowItsBound.{WordSized, draws-below}
+use Rattle.words.specs.SettledNeverFalls.{as-many-values}
+use Rattle.shuffle.specs.Bounds.{boundsFrom}
+use Rattle.shuffle.specs.BoundsLaws.{bounds-length, falling-bound, falling-split}
+use Rattle.shuffle.specs.Shuffle.{placesDrawn}
+
+module _ (s : Words) (n budget : ℕ) {places : List ℕ} {used : ℕ} (e : placesDrawn s n budget ≡ all places used) where
+  -- as many places as draw
+  pub as-many-places : length places ≡ n - 1
+  as-many-places = as-many-values s (boundsFrom n true (n - 1)) budget e ∙ bounds-length n true (n - 1)
+
+  module _ (i : ℕ) (some : 0 < i) (inside : i < n) where
+    -- the draw of place i comes after those of the n - 1 - i places above it
+    pub place-in-turn : InTurn s (boundsFrom n true (n - 1 - i)) (i + 1) budget places
+    place-in-turn =
+        let count : n - 1 ≡ n - 1 - i + suc (i - 1) = omega arith in
+        let bound : n - (n - 1 - i) ≡ i + 1 = omega arith in
+        let split : boundsFrom n true (n - 1) ≡ boundsFrom n true (n - 1 - i) ++ ((i + 1) ∷ boundsFrom (i + 1 - 1) true (i - 1)) =
+        ap (boundsFrom n true) count ∙ falling-split n (n - 1 - i) (i - 1) ∙ ap (λ (r : ℕ). boundsFrom n true (n - 1 - i) ++ (r ∷ boundsFrom (r - 1) true (i - 1))) bound in
+        each-in-turn s (boundsFrom n true (n - 1 - i)) (i + 1) (boundsFrom (i + 1 - 1) true (i - 1)) budget (rw split at e)
+
+    pub place-at-most : WordSized s → getD places (n - 1 - i) 0 ≤ i
+    place-at-most sized =
+        let below = draws-below s (boundsFrom n true (n - 1)) budget sized e .below (n - 1 - i) (rw (bounds-length n true (n - 1)) (omega arith)) in
+        omega (arith, below, falling-bound n (n - 1) (n - 1 - i) (omega arith))

@@ -1,0 +1,55 @@
+-- The laws of swaps: by their cases, the length that stays, and one place more.
+-- Assumes nothing.
+use mathlib.Core.Path.{_≡_, refl, sym, _∙_, ap}
+use mathlib.Core.Bool.{Bool, true, false, cond, _&&_}
+use mathlib.Core.List.{List, [], _∷_, _++_}
+use Prim.Native.Nat.{ℕ, zero, suc, _+_, _-_, _≤_, _<_}
+use native.Mathlib.Omega.{arith}
+use borrow.Author.Tests.{lt-ltb, le-ltb}
+use lib.Dec.{ltb}
+use lib.ListN.{length, getD, set, length-set}
+use Rattle.shuffle.specs.Swap.{swapped, arranged}
+
+module _ (l : List ℕ) (i j : ℕ) where
+  -- both places are in the list,
+  pub swap-inside : i < length l → j < length l → swapped l i j ≡ set (set l i (getD l j 0)) j (getD l i 0)
+  unfolding swapped
+  swap-inside h k = rw (lt-ltb i (length l) h, lt-ltb j (length l) k)
+
+  -- or one is past its end.
+  pub swap-first-outside : length l ≤ i → swapped l i j ≡ l
+  unfolding swapped
+  swap-first-outside h = rw (le-ltb i (length l) h)
+
+  pub swap-second-outside : length l ≤ j → swapped l i j ≡ l
+  unfolding swapped
+  swap-second-outside h = go (ltb i (length l))
+    where
+      go : (b : Bool) → cond (b && ltb j (length l)) (set (set l i (getD l j 0)) j (getD l i 0)) l ≡ l
+      go true = rw (le-ltb j (length l) h)
+      go false = refl
+
+  pub length-swapped : length (swapped l i j) ≡ length l
+  unfolding swapped
+  length-swapped = go (ltb i (length l) && ltb j (length l))
+    where
+      go : (b : Bool) → length (cond b (set (set l i (getD l j 0)) j (getD l i 0)) l) ≡ length l
+      go true = simp length-set
+      go false = refl
+
+pub arranged-none : (i : ℕ) (l : List ℕ) → arranged i [] l ≡ l
+unfolding arranged
+arranged-none i l = refl
+
+pub length-arranged : (i : ℕ) (js l : List ℕ) → length (arranged i js l) ≡ length l
+unfolding arranged
+length-arranged i [] l = refl
+length-arranged i (j ∷ js) l = length-arranged (i - 1) js (swapped l i j) ∙ length-swapped l i j
+
+-- one place more at the end
+pub arranged-more : (i : ℕ) (js : List ℕ) (j : ℕ) (l : List ℕ) → arranged i (js ++ (j ∷ [])) l ≡ swapped (arranged i js l) (i - length js) j
+unfolding arranged
+arranged-more i [] j l = let z : i - 0 ≡ i = omega arith in rw z
+arranged-more i (x ∷ js) j l =
+    let z : i - 1 - length js ≡ i - suc (length js) = omega arith in
+    arranged-more (i - 1) js j (swapped l i x) ∙ ap (λ (n : ℕ). swapped (arranged (i - 1) js (swapped l i x)) n j) z

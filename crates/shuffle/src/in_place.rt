@@ -1,0 +1,79 @@
+// The shuffle in place. Its draws don't depend on the list: so they are rehearsed, and made with their swaps only where all are settled.
+ghost use mathlib.Core.Path.{_≡_};
+ghost use Prim.Native.Nat.{_<_};
+ghost use lib.ListN.{length};
+ghost use Rattle.random.specs.Generator.{wordsOf};
+ghost use Rattle.random.specs.Lent.{lent};
+ghost use Rattle.bounded.specs.Answers.{wordsFrom, answered, handed, answeredIn};
+ghost use Rattle.shuffle.specs.Performing.{Performed};
+ghost use Rattle.shuffle.specs.Shuffle.{shuffleBy, shuffled};
+use crate::rehearsal::rehearse;
+use crate::rehearsal::room;
+use crate::swapping::swap;
+use bounded::Answer;
+use bounded::EngineAnswer;
+use bounded::accept_in;
+use bounded::joined;
+use bounded::refuse_in;
+use random::Engine;
+use random::Random;
+
+// The draws with their swaps, from the place `last` down to place 1.
+fn perform(e: Engine, mt: &mut [u32; 624], list: &mut [u32], last: u32, budget: u32) -> EngineAnswer
+    requires { ⌜ last < 4294967295 ⌝ }
+    ensures { λ a. ⌜ Performed (lent e (now (mt .entry))) last budget (now (list .entry)) (now (list .exit)) a (now (mt .exit)) ⌝ }
+{
+    let mut next = e;
+    let mut block = [0u32; 16];
+    let mut used: u32 = 0;
+    let mut at = last;
+    while 0 < at {
+        let n = room(at, budget - used);
+        if n == 0 {
+            return refuse_in(words::refusal::BUDGET, next);
+        }
+        next = ahead::words_in(next, mt, &mut block, n);
+        let mut i: usize = 0;
+        while i < n {
+            let word = block[i];
+            if words::is_good(word, at + 1) {
+                swap(list, at as usize, words::quotient(word, at + 1) as usize);
+                at -= 1;
+            }
+            i += 1;
+        }
+        used += n as u32;
+    }
+    accept_in(0, used, next)
+}
+
+// The list in an order drawn at random. Where it is refused, list and table are as they came.
+pub fn shuffle_in(e: Engine, mt: &mut [u32; 624], list: &mut [u32], budget: u32) -> EngineAnswer
+    ensures answer { λ a. ⌜ handed a (now (mt .exit)) ≡ answeredIn (lent e (now (mt .entry))) (shuffleBy (wordsOf (lent e (now (mt .entry)))) (length (now (list .entry))) budget) ⌝ }
+    ensures list { λ a. ⌜ now (list .exit) ≡ shuffled (wordsOf (lent e (now (mt .entry)))) (now (list .entry)) budget ⌝ }
+{
+    let n = list.len();
+    if n > bounded::limit::LIST_LIMIT {
+        return refuse_in(words::refusal::TOO_LONG, e);
+    }
+    if n < 2 {
+        return accept_in(0, 0, e);
+    }
+    let first = n as u32;
+    let d = rehearse(e, mt, first, true, first - 1, budget);
+    if d.complete {
+        return perform(e, mt, list, first - 1, budget);
+    }
+    refuse_in(words::refusal::BUDGET, e)
+}
+
+// The list in an order drawn at random. Where it is refused the list is as it came.
+pub fn shuffle(g: Random, list: &mut [u32], budget: u32) -> Answer
+    ensures answer { λ a. ⌜ a ≡ answered g (shuffleBy (wordsFrom g) (length (now (list .entry))) budget) ⌝ }
+    ensures list { λ a. ⌜ now (list .exit) ≡ shuffled (wordsFrom g) (now (list .entry)) budget ⌝ }
+{
+    let mut moved = g;
+    let a = shuffle_in(random::engine_of(g), &mut moved.twister.mt, list, budget);
+    let mt = moved.twister.mt;
+    joined(a, mt)
+}

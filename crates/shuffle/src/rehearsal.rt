@@ -1,0 +1,125 @@
+// Draws made without their effect: whether they are all settled within the budget, and with how many words. So a call that must touch
+// nothing where it refuses knows before it begins.
+ghost use mathlib.Core.Bool.{false};
+ghost use mathlib.Core.Path.{_≡_};
+ghost use Prim.Native.Nat.{_≤_};
+ghost use Rattle.words.specs.Draw.{short, draws};
+ghost use Rattle.random.specs.Generator.{wordsOf};
+ghost use Rattle.random.specs.Lent.{lent};
+ghost use Rattle.bounded.specs.TableKept.{onTable};
+ghost use Rattle.shuffle.specs.Bounds.{nextBound, boundsFrom};
+ghost use Rattle.shuffle.specs.Rehearsal.{Room, rehearsedOf};
+use random::Engine;
+
+// Whether all draws are settled, the words that they use (0 where they are not all settled), and how many of them are settled.
+pub struct Rehearsed {
+    pub complete: bool,
+    pub used: u32,
+    pub settled: u32,
+}
+
+// n, or a whole block where n is more.
+fn block_of(n: u32) -> usize
+    ensures { λ m. ⌜ (m ≤ n) × (m ≤ 16) × (m ≡ 0 → n ≡ 0) ⌝ }
+{
+    if n < 16 {
+        return n as usize;
+    }
+    16
+}
+
+// How many words to take at once: none that the draws left over may not need, and none beyond the budget.
+pub fn room(left: u32, budget: u32) -> usize
+    ensures { λ n. ⌜ Room left budget n ⌝ }
+{
+    if budget < left {
+        return block_of(budget);
+    }
+    block_of(left)
+}
+
+// The bound after r.
+fn next_bound(r: u32, falls: bool) -> u32
+    ensures { λ n. ⌜ n ≡ nextBound falls r ⌝ }
+{
+    if falls {
+        if r == 0 {
+            return 0;
+        }
+        return r - 1;
+    }
+    r
+}
+
+fn not_settled(settled: u32) -> Rehearsed
+    ensures { λ d. ⌜ d ≡ rehearsedOf (short settled) ⌝ }
+{
+    Rehearsed {
+        complete: false,
+        used: 0,
+        settled,
+    }
+}
+
+// The draws on the table itself, which they move where the kind draws from it.
+fn run(
+    e: Engine,
+    mt: &mut [u32; 624],
+    first: u32,
+    falls: bool,
+    count: u32,
+    budget: u32,
+) -> Rehearsed
+    ensures told { λ d. ⌜ d ≡ rehearsedOf (draws (wordsOf (lent e (now (mt .entry)))) (boundsFrom first falls count) budget) ⌝ }
+    ensures table { λ d. ⌜ (onTable (e .backend) ≡ false → now (mt .exit) ≡ now (mt .entry)) ⌝ }
+{
+    let mut next = e;
+    let mut block = [0u32; 16];
+    let mut used: u32 = 0;
+    let mut settled: u32 = 0;
+    let mut r = first;
+    while settled < count {
+        let n = room(count - settled, budget - used);
+        if r == 0 {
+            return not_settled(settled);
+        }
+        if n == 0 {
+            return not_settled(settled);
+        }
+        next = ahead::words_in(next, mt, &mut block, n);
+        let mut i: usize = 0;
+        while i < n {
+            if words::is_good(block[i], r) {
+                settled += 1;
+                r = next_bound(r, falls);
+            }
+            i += 1;
+        }
+        used += n as u32;
+    }
+    Rehearsed {
+        complete: true,
+        used,
+        settled,
+    }
+}
+
+// So many draws, the first below `first`, each further one below the same bound, or below one less where the bounds fall. The table is as it came.
+pub fn rehearse(
+    e: Engine,
+    mt: &mut [u32; 624],
+    first: u32,
+    falls: bool,
+    count: u32,
+    budget: u32,
+) -> Rehearsed
+    ensures told { λ d. ⌜ d ≡ rehearsedOf (draws (wordsOf (lent e (now (mt .entry)))) (boundsFrom first falls count) budget) ⌝ }
+    ensures table { λ d. ⌜ now (mt .exit) ≡ now (mt .entry) ⌝ }
+{
+    let backend = e.backend;
+    if bounded::on_table(backend) {
+        let mut copy = *mt;
+        return run(e, &mut copy, first, falls, count, budget);
+    }
+    run(e, mt, first, falls, count, budget)
+}
