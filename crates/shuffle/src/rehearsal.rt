@@ -29,7 +29,7 @@ fn block_of(n: u32) -> usize
 }
 
 // How many words to take at once: none that the draws left over may not need, and none beyond the budget.
-pub fn room(left: u32, budget: u32) -> usize
+pub(crate) fn room(left: u32, budget: u32) -> usize
     ensures { λ n. ⌜ Room left budget n ⌝ }
 {
     if budget < left {
