@@ -10,10 +10,10 @@ use random::Backend;
 use random::Engine;
 use xoshiro::Xoshiro256PlusPlus;
 
-// How many words a block takes.
+// How many words a block takes; specs/Ahead.antt has the same number.
 pub const BLOCK: usize = 16;
 
-fn xoshiro_words(x: Xoshiro256PlusPlus, block: &mut [u32; 16], n: usize) -> Xoshiro256PlusPlus
+fn xoshiro_words(x: Xoshiro256PlusPlus, block: &mut [u32; BLOCK], n: usize) -> Xoshiro256PlusPlus
     requires { ⌜ n ≤ 16 ⌝ }
     ensures { λ r. ⌜ XoshiroPut x n (now (block .entry)) (now (block .exit)) r ⌝ }
 {
@@ -28,7 +28,7 @@ fn xoshiro_words(x: Xoshiro256PlusPlus, block: &mut [u32; 16], n: usize) -> Xosh
     next
 }
 
-fn pcg32_words(p: Pcg32, block: &mut [u32; 16], n: usize) -> Pcg32
+fn pcg32_words(p: Pcg32, block: &mut [u32; BLOCK], n: usize) -> Pcg32
     requires { ⌜ n ≤ 16 ⌝ }
     ensures { λ r. ⌜ Pcg32Put p n (now (block .entry)) (now (block .exit)) r ⌝ }
 {
@@ -43,7 +43,7 @@ fn pcg32_words(p: Pcg32, block: &mut [u32; 16], n: usize) -> Pcg32
     next
 }
 
-fn pcg64_words(p: Pcg64, block: &mut [u32; 16], n: usize) -> Pcg64
+fn pcg64_words(p: Pcg64, block: &mut [u32; BLOCK], n: usize) -> Pcg64
     requires { ⌜ n ≤ 16 ⌝ }
     ensures { λ r. ⌜ Pcg64Put p n (now (block .entry)) (now (block .exit)) r ⌝ }
 {
@@ -58,7 +58,7 @@ fn pcg64_words(p: Pcg64, block: &mut [u32; 16], n: usize) -> Pcg64
     next
 }
 
-fn twister_words(mt: &mut [u32; 624], mti: u32, block: &mut [u32; 16], n: usize) -> u32
+fn twister_words(mt: &mut [u32; 624], mti: u32, block: &mut [u32; BLOCK], n: usize) -> u32
     requires { ⌜ n ≤ 16 ⌝ }
     ensures { λ r. ⌜ TwisterPut (now (mt .entry)) mti n (now (block .entry)) (now (block .exit)) (now (mt .exit)) r ⌝ }
 {
@@ -85,7 +85,7 @@ fn at_most(n: usize) -> usize
 }
 
 // The next n words, at most sixteen, in the block's first entries, and the engine after them. The other entries stay.
-pub fn words_in(e: Engine, mt: &mut [u32; 624], block: &mut [u32; 16], n: usize) -> Engine
+pub fn words_in(e: Engine, mt: &mut [u32; 624], block: &mut [u32; BLOCK], n: usize) -> Engine
     ensures { λ r. ⌜ WordsPut (lent e (now (mt .entry))) (atMost n) (now (block .entry)) (now (block .exit)) (lent r (now (mt .exit))) ⌝ }
 {
     let few = at_most(n);

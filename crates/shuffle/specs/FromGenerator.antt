@@ -1,12 +1,10 @@
 -- The words of a generator, block after block: where the loops of the rehearsal and of the shuffle stand.
 -- Assumes nothing.
-use mathlib.Core.Path.{_≡_, refl, sym, _∙_, ap}
-use mathlib.Core.Bool.{Bool, true, false}
+use mathlib.Core.Path.{_≡_, sym, _∙_}
 use mathlib.Core.List.{List}
 use Prim.Native.Nat.{ℕ, _+_, _≤_, _<_}
 use native.Mathlib.Omega.{arith}
 use lib.ListN.{length, getD}
-use Rattle.words.specs.Draw.{Words}
 use Rattle.random.specs.Generator.{Gen, advance, wordsOf}
 use Rattle.random.specs.GeneratorLaws.{advance-none, advance-add, words-after}
 use Rattle.ahead.specs.Ahead.{atMost, placed, WordsPut}
@@ -35,3 +33,11 @@ module _ {g cur cur′ : Gen} {taken n : ℕ} {block block′ : List ℕ} (h : B
       let here : getD (placed (wordsOf cur) n block) j 0 ≡ wordsOf cur j = placed-word (wordsOf cur) n block long j k in
       let at : wordsOf cur j ≡ wordsOf g (taken + j) = rw (h .moved, words-after taken g) in
       rw (p .words, at-most-few n few) (here ∙ at)
+
+-- How many words may be taken at once: no more than draws are left, than the budget allows, or than a block takes; none only where one of these
+-- is none.
+pub record Room (left budget n : ℕ) : Type 0 where
+  pub for-draws : n ≤ left
+  pub for-budget : n ≤ budget
+  pub for-block : n ≤ 16
+  pub none : n ≡ 0 → 0 < left → budget ≡ 0

@@ -1,7 +1,6 @@
 -- What the shuffle's promise fixes: one answer and one list, the generator after the words used, and when it is refused, and with which number.
 -- Assumes nothing.
 use mathlib.Core.Path.{_≡_, refl, sym, _∙_, ap}
-use mathlib.Core.Bool.{Bool, true, false, cond}
 use mathlib.Core.List.{List}
 use mathlib.Core.Logic.{_↔_}
 use native.Mathlib.Decide.{decLe}

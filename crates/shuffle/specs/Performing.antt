@@ -1,13 +1,13 @@
 -- The shuffle's draws with their swaps: what holds after some words, with one law for each way through the loop.
 -- Assumes nothing.
 use mathlib.Core.Path.{_≡_, refl, sym, _∙_, ap}
-use mathlib.Core.Bool.{Bool, true, false}
+use mathlib.Core.Bool.{true, false}
 use mathlib.Core.List.{List, [], _∷_, _++_}
 use Prim.Native.Nat.{ℕ, _+_, _-_, _≤_, _<_}
 use native.Mathlib.Omega.{arith}
 use lib.ListN.{length, getD}
-use Rattle.words.specs.Draw.{Words, good, quotient, Drawn, all, short, draws, gives}
-use Rattle.random.specs.Generator.{Gen, advance, wordsOf}
+use Rattle.words.specs.Draw.{Words, good, quotient, all, draws, gives}
+use Rattle.random.specs.Generator.{Gen, wordsOf}
 use Rattle.random.specs.Lent.{lent}
 use Rattle.random.specs.declared.engine.Engine.{Engine}
 use Rattle.bounded.specs.declared.answers.EngineAnswer.{EngineAnswer}

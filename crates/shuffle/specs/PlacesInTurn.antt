@@ -1,13 +1,13 @@
 -- "A shuffle obeys this draw after draw under one budget" (the order, demand 3), place by place: the place i draws below i + 1, from the word just past
 -- those of the places above it and with the budget that they left, and draws no place above i.
 -- Assumes nothing.
-use mathlib.Core.Path.{_≡_, refl, sym, _∙_, ap}
+use mathlib.Core.Path.{_≡_, _∙_, ap}
 use mathlib.Core.Bool.{true}
 use mathlib.Core.List.{List, _∷_, _++_}
-use Prim.Native.Nat.{ℕ, zero, suc, _+_, _-_, _≤_, _<_}
+use Prim.Native.Nat.{ℕ, suc, _+_, _-_, _≤_, _<_}
 use native.Mathlib.Omega.{arith}
 use lib.ListN.{length, getD}
-use Rattle.words.specs.Draw.{Words, all, draws}
+use Rattle.words.specs.Draw.{Words, all}
 use Rattle.words.specs.EachInTurn.{InTurn, each-in-turn}
 use Rattle.words.specs.BelowItsBound.{WordSized, draws-below}
 use Rattle.words.specs.SettledNeverFalls.{as-many-values}

@@ -1,6 +1,6 @@
 -- The loop of a rehearsal: what holds after some words, with one law for each way through it.
 -- Assumes nothing.
-use mathlib.Core.Path.{_≡_, refl, sym, _∙_, ap}
+use mathlib.Core.Path.{_≡_, refl, _∙_, ap}
 use mathlib.Core.Bool.{Bool, true, false}
 use mathlib.Core.List.{List, [], _∷_, _++_}
 use Prim.Native.Nat.{ℕ, _+_, _-_, _≤_, _<_}
@@ -8,7 +8,7 @@ use native.Mathlib.Omega.{arith}
 use lib.ListN.{length, getD, length-append}
 use Rattle.words.specs.Draw.{Words, good, quotient, all, short, draws}
 use Rattle.shuffle.specs.Bounds.{nextBound, boundsFrom}
-use Rattle.shuffle.specs.Rehearsal.{rehearsedOf}
+use Rattle.shuffle.specs.Rehearsal.{tell, rehearsedOf}
 use Rattle.shuffle.specs.BoundsLaws.{bounds-none, bounds-some}
 use Rattle.shuffle.specs.WordAfterWord.{Underway, underway-start, underway-good, underway-bad, underway-done, underway-out, underway-zero}
 
@@ -55,7 +55,7 @@ module _ {s : Words} {first : ℕ} {falls : Bool} {count budget taken settled r 
       let z : count - settled ≡ 0 = omega arith in
       underway-done (rw (z, bounds-none r falls) at (h .under))
 
-  pub rehearsing-told : count ≤ settled → record { complete = true; used = taken; settled = settled } ≡ rehearsedOf (draws s (boundsFrom first falls count) budget)
+  pub rehearsing-told : count ≤ settled → tell true taken settled ≡ rehearsedOf (draws s (boundsFrom first falls count) budget)
   rehearsing-told m = rw (rehearsing-done m, h .counted)
 
   -- or the budget is used up,

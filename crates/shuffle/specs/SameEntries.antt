@@ -1,9 +1,9 @@
 -- A shuffled list has the same entries: as many, and every number as often as before.
 -- Assumes nothing.
-use mathlib.Core.Path.{_≡_, refl, sym, _∙_, ap}
+use mathlib.Core.Path.{_≡_, refl, _∙_, ap}
 use mathlib.Core.Bool.{Bool, true, false, cond}
 use mathlib.Core.List.{List, [], _∷_}
-use Prim.Native.Nat.{ℕ, zero, suc, _+_, _-_, _≤_, _<_}
+use Prim.Native.Nat.{ℕ, zero, suc, _+_, _-_, _<_}
 use native.Mathlib.Decide.{decLe}
 use native.Mathlib.Nat.{lt-of-not-le}
 use native.Mathlib.Omega.{arith}

@@ -1,14 +1,14 @@
 -- "So a larger budget never changes an answer given" (the order, demand 3), of the shuffle: its value, its words used, the next generator and the list.
 -- Assumes nothing.
-use mathlib.Core.Path.{_≡_, refl, sym, _∙_, ap}
+use mathlib.Core.Path.{_≡_, refl, ap}
 use mathlib.Core.Bool.{Bool, true, false, cond}
 use mathlib.Core.List.{List}
-use Prim.Native.Nat.{ℕ, _-_, _≤_, _<_}
+use Prim.Native.Nat.{ℕ, _-_, _≤_}
 use native.Mathlib.Omega.{arith}
 use lib.Dec.{ltb}
 use lib.ListN.{length}
 use Rattle.words.specs.Refusal.{answered, tooLong}
-use Rattle.words.specs.Draw.{Words, Drawn, all, short, draws, Outcome, refused, outcomeOf}
+use Rattle.words.specs.Draw.{Words, Drawn, all, short, draws, refused, outcomeOf}
 use Rattle.words.specs.LargerBudget.{call-larger}
 use Rattle.words.specs.UsedWithinBudget.{draws-within}
 use Rattle.random.specs.declared.backend.Random.{Random}

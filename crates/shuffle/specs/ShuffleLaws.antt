@@ -1,17 +1,15 @@
 -- The shuffle by its cases, for code that works it out.
 -- Assumes nothing.
-use mathlib.Core.Path.{_≡_, refl, sym, _∙_, ap}
-use mathlib.Core.Bool.{Bool, true, false, true≢false}
+use mathlib.Core.Path.{_≡_, sym, _∙_, ap}
 use mathlib.Core.List.{List, []}
-use Prim.Native.Nat.{ℕ, _+_, _-_, _≤_, _<_}
+use Prim.Native.Nat.{ℕ, _-_, _≤_, _<_}
 use native.Mathlib.Omega.{arith}
 use borrow.Author.Tests.{lt-ltb, le-ltb}
 use lib.ListN.{length}
 use Rattle.words.specs.Refusal.{tooLong, outOfBudget}
-use Rattle.words.specs.Draw.{Words, Drawn, all, short, draws, Outcome, refused, gives, outcomeOf}
+use Rattle.words.specs.Draw.{Words, all, short, Outcome, refused, gives, outcomeOf}
 use Rattle.words.specs.OneOutcomeOfDraws.{draws-done}
 use Rattle.bounded.specs.Limit.{listLimit}
-use Rattle.shuffle.specs.Bounds.{boundsFrom}
 use Rattle.shuffle.specs.BoundsLaws.{bounds-none}
 use Rattle.shuffle.specs.Swap.{arranged}
 use Rattle.shuffle.specs.SwapLaws.{arranged-none}

@@ -24,7 +24,7 @@ fn perform(e: Engine, mt: &mut [u32; 624], list: &mut [u32], last: u32, budget: 
     ensures { λ a. ⌜ Performed (lent e (now (mt .entry))) last budget (now (list .entry)) (now (list .exit)) a (now (mt .exit)) ⌝ }
 {
     let mut next = e;
-    let mut block = [0u32; 16];
+    let mut block = [0u32; ahead::BLOCK];
     let mut used: u32 = 0;
     let mut at = last;
     while 0 < at {

@@ -3,12 +3,13 @@
 ghost use mathlib.Core.Bool.{false};
 ghost use mathlib.Core.Path.{_≡_};
 ghost use Prim.Native.Nat.{_≤_};
-ghost use Rattle.words.specs.Draw.{short, draws};
+ghost use Rattle.words.specs.Draw.{draws};
 ghost use Rattle.random.specs.Generator.{wordsOf};
 ghost use Rattle.random.specs.Lent.{lent};
 ghost use Rattle.bounded.specs.TableKept.{onTable};
 ghost use Rattle.shuffle.specs.Bounds.{nextBound, boundsFrom};
-ghost use Rattle.shuffle.specs.Rehearsal.{Room, rehearsedOf};
+ghost use Rattle.shuffle.specs.FromGenerator.{Room};
+ghost use Rattle.shuffle.specs.Rehearsal.{tell, rehearsedOf};
 use random::Engine;
 
 // Whether all draws are settled, the words that they use (0 where they are not all settled), and how many of them are settled.
@@ -22,10 +23,10 @@ pub struct Rehearsed {
 fn block_of(n: u32) -> usize
     ensures { λ m. ⌜ (m ≤ n) × (m ≤ 16) × (m ≡ 0 → n ≡ 0) ⌝ }
 {
-    if n < 16 {
+    if n < (ahead::BLOCK as u32) {
         return n as usize;
     }
-    16
+    ahead::BLOCK
 }
 
 // How many words to take at once: none that the draws left over may not need, and none beyond the budget.
@@ -51,12 +52,12 @@ fn next_bound(r: u32, falls: bool) -> u32
     r
 }
 
-fn not_settled(settled: u32) -> Rehearsed
-    ensures { λ d. ⌜ d ≡ rehearsedOf (short settled) ⌝ }
+fn told(complete: bool, used: u32, settled: u32) -> Rehearsed
+    ensures { λ d. ⌜ d ≡ tell complete used settled ⌝ }
 {
     Rehearsed {
-        complete: false,
-        used: 0,
+        complete,
+        used,
         settled,
     }
 }
@@ -74,17 +75,17 @@ fn run(
     ensures table { λ d. ⌜ (onTable (e .backend) ≡ false → now (mt .exit) ≡ now (mt .entry)) ⌝ }
 {
     let mut next = e;
-    let mut block = [0u32; 16];
+    let mut block = [0u32; ahead::BLOCK];
     let mut used: u32 = 0;
     let mut settled: u32 = 0;
     let mut r = first;
     while settled < count {
         let n = room(count - settled, budget - used);
         if r == 0 {
-            return not_settled(settled);
+            return told(false, 0, settled);
         }
         if n == 0 {
-            return not_settled(settled);
+            return told(false, 0, settled);
         }
         next = ahead::words_in(next, mt, &mut block, n);
         let mut i: usize = 0;
@@ -97,11 +98,7 @@ fn run(
         }
         used += n as u32;
     }
-    Rehearsed {
-        complete: true,
-        used,
-        settled,
-    }
+    told(true, used, settled)
 }
 
 // So many draws, the first below `first`, each further one below the same bound, or below one less where the bounds fall. The table is as it came.

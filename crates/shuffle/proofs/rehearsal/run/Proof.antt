@@ -39,19 +39,19 @@ sub-room-2 c = rehearsing-within (c .before .loop .inv .0 .1)
 room-requires : tie.Need-room-requires Inv-loop2 μ-loop2 Inv-loop μ-loop
 room-requires c κs = search needs
 
-not-settled-requires : tie.Need-not-settled-requires Inv-loop2 μ-loop2 Inv-loop μ-loop
-not-settled-requires c κs = search needs
+told-requires : tie.Need-told-requires Inv-loop2 μ-loop2 Inv-loop μ-loop
+told-requires c κs = search needs
 
 returns : tie.Need-returns Inv-loop2 μ-loop2 Inv-loop μ-loop
 returns c =
     let l = c .before .before .before in
     let h = l .before .loop .inv in (
-      c .not-settled .ensures ∙ ap rehearsedOf (sym (rehearsing-zero (h .0 .1) (l .loop-test .taken) (c .before .if1 .taken))),
+      c .told .ensures ∙ ap rehearsedOf (sym (rehearsing-zero (h .0 .1) (l .loop-test .taken) (c .before .if1 .taken))),
       λ o. others-keep _ _ _ o (h .1 .moved),
     )
 
-not-settled-requires-2 : tie.Need-not-settled-requires-2 Inv-loop2 μ-loop2 Inv-loop μ-loop
-not-settled-requires-2 c κs = search needs
+told-requires-2 : tie.Need-told-requires-2 Inv-loop2 μ-loop2 Inv-loop μ-loop
+told-requires-2 c κs = search needs
 
 returns-2 : tie.Need-returns-2 Inv-loop2 μ-loop2 Inv-loop μ-loop
 returns-2 c =
@@ -59,7 +59,7 @@ returns-2 c =
     let l = d .before in
     let h = l .before .loop .inv in
     let out = d .room .ensures .none (c .before .if2 .taken) (omega arith) in (
-      c .not-settled2 .ensures ∙ ap rehearsedOf (sym (rehearsing-out (h .0 .1) (l .loop-test .taken) (omega arith))),
+      c .told2 .ensures ∙ ap rehearsedOf (sym (rehearsing-out (h .0 .1) (l .loop-test .taken) (omega arith))),
       λ o. others-keep _ _ _ o (h .1 .moved),
     )
 
@@ -127,10 +127,13 @@ loop-again c =
     let end : c .before .loop2 .i ≡ d .room .result = omega arith in
     (rw (← end) (c .before .loop2 .inv .goes _ (block-words (h .1) few put) _ (h .0 .1)), blocks-on (h .1) few put)
 
+told-requires-3 : tie.Need-told-requires-3 Inv-loop2 μ-loop2 Inv-loop μ-loop
+told-requires-3 c κs = search needs
+
 returns-3 : tie.Need-returns-3 Inv-loop2 μ-loop2 Inv-loop μ-loop
 returns-3 c =
-    let h = c .before .loop .inv in (
-      rehearsing-told (h .0 .1) (c .loop-test .left),
+    let h = c .before .before .loop .inv in (
+      c .told3 .ensures ∙ rehearsing-told (h .0 .1) (c .before .loop-test .left),
       λ o. others-keep _ _ _ o (h .1 .moved),
     )
 
@@ -146,9 +149,9 @@ run-spec =
     sub-room
     sub-room-2
     room-requires
-    not-settled-requires
+    told-requires
     returns
-    not-settled-requires-2
+    told-requires-2
     returns-2
     words-in-requires
     loop2-holds
@@ -164,4 +167,5 @@ run-spec =
     add-used
     loop-less
     loop-again
+    told-requires-3
     returns-3)
