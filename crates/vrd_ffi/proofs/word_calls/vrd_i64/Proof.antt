@@ -1,0 +1,41 @@
+-- `vrd_i64` meets its contract. Assumes nothing.
+use mir.Syntax.{w64}
+use borrow.Author.Needs.{needs}
+use Rattle.signed.specs.Callers.{result-read}
+use Rattle.vrd_ffi.specs.AnswersLaws.{unknown-kind}
+use Rattle.vrd_ffi.specs.WordCallsLaws.{signed-drawn}
+use Rattle.vrd_ffi.proofs.word_calls.vrd_i64.Statement.{statement}
+use Rattle.vrd_ffi.proofs.word_calls.vrd_i64.Tie as tie
+
+returns : tie.Need-returns
+returns c = unknown-kind _ _ _ (c .if1 .taken)
+
+engine-requires : tie.Need-engine-requires
+engine-requires c κs = search needs
+
+next-u64-requires : tie.Need-next-u64-requires
+next-u64-requires c κs = search needs
+
+parts-with-requires : tie.Need-parts-with-requires
+parts-with-requires c κs = search needs
+
+signed-u64-requires : tie.Need-signed-u64-requires
+signed-u64-requires c κs = search needs
+
+returns-2 : tie.Need-returns-2
+returns-2 c =
+    let draw = c .before .before .before in
+    let drawn = rw (draw .before .before .engine .ensures) at (draw .next-u64 .ensures) in
+    rw (result-read w64 _ (c .signed-u64 .ok), c .signed-u64 .ensures, c .before .parts-with .ensures)
+    (signed-drawn _ _ (draw .before .before .before .if1 .left) _ _ _ _ drawn)
+
+pub vrd-i64-spec : {M : Type 1} → statement M
+vrd-i64-spec =
+    tie.close
+    (tie.spec
+    returns
+    engine-requires
+    next-u64-requires
+    parts-with-requires
+    signed-u64-requires
+    returns-2)

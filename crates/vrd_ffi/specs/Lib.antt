@@ -1,0 +1,7 @@
+-- What the exports answer, and that the conversions at the boundary lose nothing.
+pub mod Boundary
+pub mod BoundaryLaws
+pub mod Answers
+pub mod AnswersLaws
+pub mod WordCalls
+pub mod WordCallsLaws
