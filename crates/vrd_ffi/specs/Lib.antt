@@ -5,3 +5,9 @@ pub mod Answers
 pub mod AnswersLaws
 pub mod WordCalls
 pub mod WordCallsLaws
+pub mod StateCalls
+pub mod StateCallsLaws
+pub mod MakingCalls
+pub mod MakingCallsLaws
+pub mod FloatCalls
+pub mod FloatCallsLaws

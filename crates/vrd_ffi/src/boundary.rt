@@ -1,6 +1,6 @@
 // The generator as a caller of another language holds it, beside its table; and the only two conversions there are.
 ghost use mathlib.Core.Path.{_≡_};
-ghost use Rattle.vrd_ffi.specs.Boundary.{engineOf, partsWith};
+ghost use Rattle.vrd_ffi.specs.Boundary.{engineOf, partsWith, zeroParts};
 use pcg::Pcg32;
 use pcg::Pcg64;
 use random::Backend;
@@ -86,5 +86,19 @@ pub fn parts_with(e: Engine, p: Parts) -> Parts
             w2: q.inc.high,
             w3: q.inc.low,
         },
+    }
+}
+
+// Kind 0 with four zero words.
+pub fn zero_parts() -> Parts
+    ensures { λ r. ⌜ r ≡ zeroParts ⌝ }
+{
+    Parts {
+        kind: 0,
+        mti: 0,
+        w0: 0,
+        w1: 0,
+        w2: 0,
+        w3: 0,
     }
 }
