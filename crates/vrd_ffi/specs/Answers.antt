@@ -29,7 +29,15 @@ pub record Held (A : Type 0) : Type 0 where
 abbrev pub held : {A : Type 0} → A → Parts → List ℕ → Held A
 held v p t = record { value = v; parts = p; table = t }
 
--- the same where the generator of p has become g
+-- a value and the words used for it
+pub record Counted (A : Type 0) : Type 0 where
+  pub value : A
+  pub used : ℕ
+
+abbrev pub counted : {A : Type 0} → A → ℕ → Counted A
+counted v n = record { value = v; used = n }
+
+-- a value beside the generator of p, which has become g
 abbrev pub become : {A : Type 0} → Parts → A → Gen → Held A
 become p v g = held v (partsWith (engineWith (g .backend) (g .twister .mti)) p) (g .twister .mt)
 

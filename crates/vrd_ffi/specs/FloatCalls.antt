@@ -14,7 +14,7 @@ use Rattle.vrd_ffi.specs.declared.boundary.Parts.{Parts}
 use Rattle.vrd_ffi.specs.declared.float_calls.Number32.{Number32}
 use Rattle.vrd_ffi.specs.declared.float_calls.Number64.{Number64}
 use Rattle.vrd_ffi.specs.declared.float_calls.Coin.{Coin}
-use Rattle.vrd_ffi.specs.Answers.{Answered, answered, atBoundary, Held, held, become, drawing}
+use Rattle.vrd_ffi.specs.Answers.{Answered, answered, atBoundary, Held, held, become, Counted, counted, drawing}
 use Rattle.vrd_ffi.specs.Boundary.{generatorOf}
 
 abbrev pub number32 : Number32 → List ℕ → Answered (Held Float)
@@ -43,20 +43,13 @@ doubleAt p t = floatedAt zero64 p t (doubleIn (generatorOf p t))
 
 -- ---- a chance: the bool and the words used
 
-pub record Toss : Type 0 where
-  pub value : Bool
-  pub used : ℕ
+abbrev pub coin : Coin → List ℕ → Answered (Held (Counted Bool))
+coin r t = answered (r .refusal) (held (counted (r .value) (r .used)) (r .next) t)
 
-abbrev pub toss : Bool → ℕ → Toss
-toss b n = record { value = b; used = n }
+abbrev pub tossedAt : Parts → List ℕ → Tossed → Answered (Held (Counted Bool))
+tossedAt p t d = atBoundary p (held (counted false 0) p t) (answered (d .refusal) (become p (counted (d .value) (d .used)) (d .next)))
 
-abbrev pub coin : Coin → List ℕ → Answered (Held Toss)
-coin r t = answered (r .refusal) (held (toss (r .value) (r .used)) (r .next) t)
-
-abbrev pub tossedAt : Parts → List ℕ → Tossed → Answered (Held Toss)
-tossedAt p t d = atBoundary p (held (toss false 0) p t) (answered (d .refusal) (become p (toss (d .value) (d .used)) (d .next)))
-
-abbrev pub boolAt : Parts → List ℕ → Float → Answered (Held Toss)
+abbrev pub boolAt : Parts → List ℕ → Float → Answered (Held (Counted Bool))
 boolAt p t chance = tossedAt p t (flipIn (generatorOf p t) chance)
 
 -- ---- a number of an interval; refused, it is 0

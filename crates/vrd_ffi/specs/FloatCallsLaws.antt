@@ -14,10 +14,10 @@ use Rattle.random.specs.Generator.{Gen}
 use Rattle.random.specs.Lent.{lent}
 use Rattle.random.specs.declared.engine.Engine.{Engine}
 use Rattle.vrd_ffi.specs.declared.boundary.Parts.{Parts}
-use Rattle.vrd_ffi.specs.Answers.{Answered, answered, Held, held, become}
+use Rattle.vrd_ffi.specs.Answers.{Answered, answered, Held, held, become, counted}
 use Rattle.vrd_ffi.specs.AnswersLaws.{known-kind}
 use Rattle.vrd_ffi.specs.Boundary.{partsWith}
-use Rattle.vrd_ffi.specs.FloatCalls.{floatedAt, toss, tossedAt, uniformRefusal, uniformNumber, spreadAt}
+use Rattle.vrd_ffi.specs.FloatCalls.{floatedAt, tossedAt, uniformRefusal, uniformNumber, spreadAt}
 
 module _ (p : Parts) (t : List ℕ) (k : p .kind ≤ 3) (e : Engine) (u : List ℕ) where
   pub float-drawn : (none x : Float) (d : Floated) → record { value = x; next = lent e u } ≡ d
@@ -25,7 +25,7 @@ module _ (p : Parts) (t : List ℕ) (k : p .kind ≤ 3) (e : Engine) (u : List �
   float-drawn none x d h = known-kind p _ _ k ∙ ap (floatedAt none p t) h
 
   pub coin-tossed : (n : ℕ) (b : Bool) (m : ℕ) (d : Tossed) → record { refusal = n; value = b; used = m; next = lent e u } ≡ d
-      → answered n (held (toss b m) (partsWith e p) u) ≡ tossedAt p t d
+      → answered n (held (counted b m) (partsWith e p) u) ≡ tossedAt p t d
   coin-tossed n b m d h = known-kind p _ _ k ∙ ap (tossedAt p t) h
 
   -- whichever of the two the answer is

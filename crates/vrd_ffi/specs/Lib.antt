@@ -11,3 +11,7 @@ pub mod MakingCalls
 pub mod MakingCallsLaws
 pub mod FloatCalls
 pub mod FloatCallsLaws
+pub mod DrawCalls
+pub mod DrawCallsLaws
+pub mod ListCalls
+pub mod ListCallsLaws

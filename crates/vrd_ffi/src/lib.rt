@@ -1,7 +1,9 @@
 // The facade generator for Rust and C: each call over a lent table, with the generator's small words by value. Kinds and refusals are
 // numbers. A kind above 3 is refused with 10 before anything else is looked at, and everything stays as it came.
 mod boundary;
+mod draw_calls;
 mod float_calls;
+mod list_calls;
 mod making_calls;
 mod state_calls;
 mod word_calls;

@@ -1,0 +1,99 @@
+// Lists and buffers of the caller's: an entry chosen, the start of a part, bytes filled.
+ghost use mathlib.Core.Path.{_≡_};
+ghost use Rattle.vrd_ffi.specs.ListCalls.{chosen, started, filled, chooseAt, randSliceAt, fillBytesAt};
+use crate::boundary::Parts;
+use crate::boundary::engine;
+use crate::boundary::parts_with;
+use crate::state_calls::Moved;
+use words::refusal;
+
+// An entry, its place, the words used, and the generator after them. Refused, the numbers are 0 and the generator is as it came.
+#[repr(C)]
+pub struct Chosen {
+    pub refusal: u32,
+    pub value: u32,
+    pub used: u32,
+    pub place: usize,
+    pub next: Parts,
+}
+
+// Where a part starts, the words used, and the generator after them. Refused, the numbers are 0 and the generator is as it came.
+#[repr(C)]
+pub struct Started {
+    pub refusal: u32,
+    pub used: u32,
+    pub start: usize,
+    pub next: Parts,
+}
+
+#[no_mangle]
+pub extern "C" fn vrd_choose(p: Parts, mt: &mut [u32; 624], list: &[u32], budget: u32) -> Chosen
+    ensures { λ a. ⌜ chosen a (now (mt .exit)) ≡ chooseAt p (now (mt .entry)) (now (list .entry)) budget ⌝ }
+{
+    if p.kind > 3 {
+        return Chosen {
+            refusal: refusal::KIND,
+            value: 0,
+            used: 0,
+            place: 0,
+            next: p,
+        };
+    }
+    let a = lists::choose_in(engine(p), mt, list, budget);
+    let e = a.next;
+    let next = parts_with(e, p);
+    Chosen {
+        refusal: a.refusal,
+        value: a.value,
+        used: a.used,
+        place: a.place,
+        next,
+    }
+}
+
+#[no_mangle]
+pub extern "C" fn vrd_rand_slice(
+    p: Parts,
+    mt: &mut [u32; 624],
+    list: &[u32],
+    window: usize,
+    budget: u32,
+) -> Started
+    ensures { λ a. ⌜ started a (now (mt .exit)) ≡ randSliceAt p (now (mt .entry)) (now (list .entry)) window budget ⌝ }
+{
+    if p.kind > 3 {
+        return Started {
+            refusal: refusal::KIND,
+            used: 0,
+            start: 0,
+            next: p,
+        };
+    }
+    let a = lists::rand_slice_in(engine(p), mt, list, window, budget);
+    let e = a.next;
+    let next = parts_with(e, p);
+    Started {
+        refusal: a.refusal,
+        used: a.used,
+        start: a.start,
+        next,
+    }
+}
+
+#[no_mangle]
+pub extern "C" fn vrd_fill_bytes(p: Parts, mt: &mut [u32; 624], dest: &mut [u8]) -> Moved
+    ensures { λ r. ⌜ filled r (now (mt .exit)) (now (dest .exit)) ≡ fillBytesAt p (now (mt .entry)) (now (dest .entry)) ⌝ }
+{
+    if p.kind > 3 {
+        return Moved {
+            refusal: refusal::KIND,
+            next: p,
+        };
+    }
+    let e = filling::fill_bytes_in(engine(p), mt, dest);
+    let next = parts_with(e, p);
+    Moved {
+        refusal: refusal::ANSWERED,
+        next,
+    }
+}
