@@ -1,7 +1,8 @@
-//! Compares each generator of the port with the original Rust: makers, single steps, loops of words, jump, twist,
-//! set_mti and states set by hand. Progress goes to standard error, the table to standard output; the status is not 0
-//! where anything differs.
+//! Compares the port with the original Rust. Each generator: makers, single steps, loops of words, jump, twist, set_mti
+//! and states set by hand. The facade over them: every call, on every kind. Progress goes to standard error, the table to
+//! standard output; the status is not 0 where anything differs.
 
+mod facade;
 mod pcg32;
 mod pcg64;
 mod seeds;
@@ -24,6 +25,7 @@ fn main() -> ExitCode {
     pcg32::compare(&mut tally);
     pcg64::compare(&mut tally);
     twister::compare(&mut tally);
+    facade::compare(&mut tally);
     print!("{tally}");
     if tally.differences() == 0 {
         ExitCode::SUCCESS

@@ -11,6 +11,7 @@ pub struct Row {
     call: &'static str,
     cases: u64,
     words: u64,
+    rejected: u64,
     differences: u64,
 }
 
@@ -26,6 +27,11 @@ impl Row {
                 eprintln!("DIFFERENCE in {generator} {call}, {}: original {original}, port {port}", what());
             }
         }
+    }
+
+    /// The original rejected a word in this case.
+    pub fn rejected(&mut self) {
+        self.rejected += 1;
     }
 
     /// So many words were drawn on each side for the cases of this row.
@@ -52,7 +58,7 @@ pub struct Tally {
 impl Tally {
     /// Runs the cases of one call and keeps their count.
     pub fn row(&mut self, generator: &'static str, call: &'static str, cases: impl FnOnce(&mut Row)) {
-        let mut row = Row { generator, call, cases: 0, words: 0, differences: 0 };
+        let mut row = Row { generator, call, cases: 0, words: 0, rejected: 0, differences: 0 };
         cases(&mut row);
         eprintln!("{generator} {call}: {} cases, {} differences", row.cases, row.differences);
         self.rows.push(row);
@@ -67,10 +73,14 @@ impl Tally {
 impl fmt::Display for Tally {
     fn fmt(&self, f: &mut fmt::Formatter<'_>) -> fmt::Result {
         let (generator, call) = ("generator", "call");
-        writeln!(f, "{generator:<20} {call:<48} {:>9} {:>10} {:>11}", "cases", "words", "differences")?;
+        writeln!(
+            f,
+            "{generator:<20} {call:<48} {:>9} {:>10} {:>9} {:>11}",
+            "cases", "words", "rejected", "differences"
+        )?;
         for row in &self.rows {
-            let Row { generator, call, cases, words, differences } = row;
-            writeln!(f, "{generator:<20} {call:<48} {cases:>9} {words:>10} {differences:>11}")?;
+            let Row { generator, call, cases, words, rejected, differences } = row;
+            writeln!(f, "{generator:<20} {call:<48} {cases:>9} {words:>10} {rejected:>9} {differences:>11}")?;
         }
         let cases: u64 = self.rows.iter().map(|row| row.cases).sum();
         writeln!(f, "{cases} cases, {} differences", self.differences())

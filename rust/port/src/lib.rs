@@ -1,11 +1,13 @@
-//! The port's four generators, as the Rattle crate `bench_ffi` exports them.
+//! The port as the Rattle crates `bench_ffi` (the four generators) and `vrd_ffi` (the facade over them) export it.
 //!
 //! The exports are proved total: they ask nothing of a caller beyond the types of their arguments. That
-//! is why exports.rs declares them as safe functions.
+//! is why the two files declare them as safe functions, but for those that take a slice by its address.
 
 mod exports;
+mod facade_exports;
 
 pub use exports::*;
+pub use facade_exports::*;
 
 impl From<u128> for Wide {
     fn from(value: u128) -> Self {
