@@ -40,16 +40,11 @@ fn bounds() -> Vec<u32> {
     bounds
 }
 
-/// Generators of a kind that draw on without end; of the twister also such that their first k words are 0, which most bounds reject.
+/// Generators of a kind that draw on without end. Of each kind one gives the word 0 first, which most bounds reject; of the twister
+/// some give k of them, also across a twist.
 fn sources(kind: usize) -> Vec<Random> {
     let mut sources = starts::lively(kind);
-    if kind == 1 {
-        sources.extend([0, 1, 2, 5].map(|k| starts::zeros_first(k, 4357)));
-        // The same with a twist among the words: the last entry is 0, and the rest comes from the next table.
-        let mut mt = starts::table(99);
-        mt[623] = 0;
-        sources.push(starts::twister(mt, 623));
-    }
+    sources.extend(starts::word_zero_first(kind));
     sources
 }
 
@@ -117,10 +112,13 @@ fn bounded(row: &mut Row, kind: usize) {
 fn random_range(row: &mut Row, kind: usize) {
     let pairs: Vec<(u32, u32)> = bounds().into_iter().flat_map(|n| [(0, n), (u32::MAX - n, u32::MAX)]).collect();
     for source in sources(kind) {
-        let mut original = source.clone();
         for &(min, max) in &pairs {
+            let mut original = source.clone();
             let port = |g: &mut Port, budget| number(port::vrd_random_range(g.parts, &mut g.table, min, max, budget));
-            draw(row, &mut original, 1, &format!("random_range({min}, {max})"), |g| g.random_range(min, max), port);
+            let what = format!("random_range({min}, {max})");
+            for _ in 0..3 {
+                draw(row, &mut original, 1, &what, |g| g.random_range(min, max), port);
+            }
         }
     }
 }
@@ -138,11 +136,13 @@ fn uint(row: &mut Row, kind: usize) {
     let mut pairs = vec![(0, 0), (7, 7), (u32::MAX, u32::MAX), (0, u32::MAX)];
     pairs.extend(bounds().into_iter().flat_map(|n| [(0, n), (u32::MAX - n, u32::MAX), (n / 2, n)]));
     for source in sources(kind) {
-        let mut original = source.clone();
         for &(min, max) in &pairs {
+            let mut original = source.clone();
             let least = u32::from(min < max);
             let port = |g: &mut Port, budget| number(port::vrd_uint(g.parts, &mut g.table, min, max, budget));
-            draw(row, &mut original, least, &format!("uint({min}, {max})"), |g| g.uint(min, max), port);
+            for _ in 0..3 {
+                draw(row, &mut original, least, &format!("uint({min}, {max})"), |g| g.uint(min, max), port);
+            }
         }
     }
 }
@@ -160,11 +160,13 @@ fn int(
         [(i32::MIN, up), (down, i32::MAX), (-((n / 2) as i32).max(1), (n / 2) as i32)]
     }));
     for source in sources(kind) {
-        let mut original = source.clone();
         for &(min, max) in &pairs {
+            let mut original = source.clone();
             let least = u32::from(min < max);
             let port = |g: &mut Port, budget| number(port_call(g, min, max, budget));
-            draw(row, &mut original, least, &format!("int({min}, {max})"), |g| original_call(g, min, max), port);
+            for _ in 0..3 {
+                draw(row, &mut original, least, &format!("int({min}, {max})"), |g| original_call(g, min, max), port);
+            }
         }
     }
 }
@@ -178,8 +180,8 @@ fn lists() -> Vec<Vec<u32>> {
 fn choose(row: &mut Row, kind: usize) {
     let lists = lists();
     for source in sources(kind) {
-        let mut original = source.clone();
         for list in &lists {
+            let mut original = source.clone();
             let value = |g: &mut Random| {
                 let entry = *g.choose(list).expect("the list is not empty");
                 ((entry as usize - 3) / 7, entry)
@@ -188,7 +190,9 @@ fn choose(row: &mut Row, kind: usize) {
                 let a = port::choose(g.parts, &mut g.table, list, budget);
                 (a.refusal, (a.place, a.value), a.used, a.next)
             };
-            draw(row, &mut original, 1, &format!("choose from {}", list.len()), value, port);
+            for _ in 0..3 {
+                draw(row, &mut original, 1, &format!("choose from {}", list.len()), value, port);
+            }
         }
     }
 }
@@ -196,12 +200,12 @@ fn choose(row: &mut Row, kind: usize) {
 fn rand_slice(row: &mut Row, kind: usize) {
     let lists = lists();
     for source in sources(kind) {
-        let mut original = source.clone();
         for list in &lists {
             for window in [1, 2, list.len() / 2, list.len() - 1, list.len()] {
                 if window == 0 || window > list.len() {
                     continue;
                 }
+                let mut original = source.clone();
                 let value = |g: &mut Random| {
                     let part = g.rand_slice(list, window).expect("the window fits");
                     (part[0] as usize - 3) / 7
@@ -210,7 +214,10 @@ fn rand_slice(row: &mut Row, kind: usize) {
                     let a = port::rand_slice(g.parts, &mut g.table, list, window, budget);
                     (a.refusal, a.start, a.used, a.next)
                 };
-                draw(row, &mut original, 1, &format!("rand_slice of {}, window {window}", list.len()), value, port);
+                let what = format!("rand_slice of {}, window {window}", list.len());
+                for _ in 0..3 {
+                    draw(row, &mut original, 1, &what, value, port);
+                }
             }
         }
     }

@@ -34,8 +34,24 @@ pub fn table(seed: u32) -> Table {
     twister.mt
 }
 
+/// Generators whose first word is 0, and whose words go on changing: the twister's with 1, 2 and 5 such words, and with one before a twist.
+pub fn word_zero_first(kind: usize) -> Vec<Random> {
+    match kind {
+        0 => vec![xoshiro(Xoshiro256PlusPlus::from_parts([0, 0x1234_5678_9ABC_DEF0, 0x0FED_CBA9_8765_4321, 0]))],
+        1 => {
+            let mut all: Vec<_> = [1, 2, 5].map(|k| zeros_first(k, 4_357)).into();
+            let mut mt = table(99);
+            mt[623] = 0;
+            all.push(twister(mt, 623));
+            all
+        }
+        2 => vec![pcg32(Pcg32::from_parts(0, 0x1234_5678_9ABC_DEF1))],
+        _ => vec![pcg64(Pcg64::from_parts(0, 0x1234_5678_9ABC_DEF0_0FED_CBA9_8765_4321))],
+    }
+}
+
 /// A table whose first k entries temper to the word 0, at position 0.
-pub fn zeros_first(k: usize, seed: u32) -> Random {
+fn zeros_first(k: usize, seed: u32) -> Random {
     let mut mt = table(seed);
     mt[..k].fill(0);
     twister(mt, 0)
