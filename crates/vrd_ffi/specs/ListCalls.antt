@@ -8,9 +8,11 @@ use Rattle.bounded.specs.Answers.{LentAnswer, answeredIn}
 use Rattle.filling.specs.Fill.{filledBytes, fillWords}
 use Rattle.lists.specs.Choosing.{LentChoice, chooseBy, chosenIn}
 use Rattle.lists.specs.Slicing.{sliceBy}
+use Rattle.shuffle.specs.Shuffle.{shuffleBy, shuffled}
 use Rattle.vrd_ffi.specs.declared.boundary.Parts.{Parts}
 use Rattle.vrd_ffi.specs.declared.list_calls.Chosen.{Chosen}
 use Rattle.vrd_ffi.specs.declared.list_calls.Started.{Started}
+use Rattle.vrd_ffi.specs.declared.list_calls.Ordered.{Ordered}
 use Rattle.vrd_ffi.specs.declared.state_calls.Moved.{Moved}
 use Rattle.vrd_ffi.specs.Answers.{Answered, answered, atBoundary, Held, held, become, Counted, counted, drawing}
 use Rattle.vrd_ffi.specs.Boundary.{generatorOf}
@@ -43,6 +45,20 @@ started r t = answered (r .refusal) (held (counted (r .start) (r .used)) (r .nex
 
 abbrev pub randSliceAt : Parts → List ℕ → List ℕ → ℕ → ℕ → Answered (Held (Counted ℕ))
 randSliceAt p t list window budget = outcomeAt p t (λ s. sliceBy s (length list) window budget)
+
+-- ---- a list in another order: the value is the whole list, which a refused call leaves as it came
+
+abbrev pub ordered : Ordered → List ℕ → List ℕ → Answered (Held (Counted (List ℕ)))
+ordered r t list = answered (r .refusal) (held (counted list (r .used)) (r .next) t)
+
+abbrev pub orderedAt : Parts → List ℕ → List ℕ → LentAnswer → List ℕ → Answered (Held (Counted (List ℕ)))
+orderedAt p t list a after =
+    atBoundary p (held (counted list 0) p t) (answered (a .refusal) (become p (counted after (a .used)) (a .next)))
+
+abbrev pub shuffleAt : Parts → List ℕ → List ℕ → ℕ → Answered (Held (Counted (List ℕ)))
+shuffleAt p t list budget =
+    let g = generatorOf p t in
+    orderedAt p t list (answeredIn g (shuffleBy (wordsOf g) (length list) budget)) (shuffled (wordsOf g) list budget)
 
 -- ---- bytes: the value is the whole buffer, which a refused call leaves as it came
 

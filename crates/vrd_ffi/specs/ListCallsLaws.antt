@@ -16,7 +16,7 @@ use Rattle.vrd_ffi.specs.Answers.{answered, held, counted, drawing}
 use Rattle.vrd_ffi.specs.AnswersLaws.{known-kind}
 use Rattle.vrd_ffi.specs.Boundary.{partsWith, generatorOf}
 use Rattle.vrd_ffi.specs.DrawCalls.{numberAt}
-use Rattle.vrd_ffi.specs.ListCalls.{entry, chosenAt, fillBytesAt}
+use Rattle.vrd_ffi.specs.ListCalls.{entry, chosenAt, orderedAt, fillBytesAt}
 
 module _ (p : Parts) (t : List ℕ) (k : p .kind ≤ 3) (e : Engine) (u : List ℕ) where
   pub entry-chosen : (n i v m : ℕ) (d : LentChoice) → record { refusal = n; place = i; value = v; used = m; next = lent e u } ≡ d
@@ -26,6 +26,10 @@ module _ (p : Parts) (t : List ℕ) (k : p .kind ≤ 3) (e : Engine) (u : List �
   pub part-started : (n v m : ℕ) (d : LentAnswer) → record { refusal = n; value = v; used = m; next = lent e u } ≡ d
       → answered n (held (counted v m) (partsWith e p) u) ≡ numberAt p t d
   part-started n v m d h = known-kind p _ _ k ∙ ap (numberAt p t) h
+
+  pub list-ordered : (n v m : ℕ) (list : List ℕ) (d : LentAnswer) → record { refusal = n; value = v; used = m; next = lent e u } ≡ d
+      → (found after : List ℕ) → found ≡ after → answered n (held (counted found m) (partsWith e p) u) ≡ orderedAt p t list d after
+  list-ordered n v m list d h found after q = known-kind p _ _ k ∙ ap₂ (orderedAt p t list) h q
 
   pub bytes-filled : (dest bytes : List ℕ) → FilledFrom (generatorOf p t) (length dest) bytes (lent e u)
       → answered refusal.answered (held bytes (partsWith e p) u) ≡ fillBytesAt p t dest

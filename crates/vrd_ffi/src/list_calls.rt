@@ -1,6 +1,6 @@
-// Lists and buffers of the caller's: an entry chosen, the start of a part, bytes filled.
+// Lists and buffers of the caller's: an entry chosen, the start of a part, a list shuffled, bytes filled.
 ghost use mathlib.Core.Path.{_≡_};
-ghost use Rattle.vrd_ffi.specs.ListCalls.{chosen, started, filled, chooseAt, randSliceAt, fillBytesAt};
+ghost use Rattle.vrd_ffi.specs.ListCalls.{chosen, started, ordered, filled, chooseAt, randSliceAt, shuffleAt, fillBytesAt};
 use crate::boundary::Parts;
 use crate::boundary::engine;
 use crate::boundary::parts_with;
@@ -23,6 +23,14 @@ pub struct Started {
     pub refusal: u32,
     pub used: u32,
     pub start: usize,
+    pub next: Parts,
+}
+
+// The words used, and the generator after them. Refused, none is used, and list and generator are as they came.
+#[repr(C)]
+pub struct Ordered {
+    pub refusal: u32,
+    pub used: u32,
     pub next: Parts,
 }
 
@@ -76,6 +84,32 @@ pub extern "C" fn vrd_rand_slice(
         refusal: a.refusal,
         used: a.used,
         start: a.start,
+        next,
+    }
+}
+
+#[no_mangle]
+pub extern "C" fn vrd_shuffle(
+    p: Parts,
+    mt: &mut [u32; 624],
+    list: &mut [u32],
+    budget: u32,
+) -> Ordered
+    ensures { λ a. ⌜ ordered a (now (mt .exit)) (now (list .exit)) ≡ shuffleAt p (now (mt .entry)) (now (list .entry)) budget ⌝ }
+{
+    if p.kind > 3 {
+        return Ordered {
+            refusal: refusal::KIND,
+            used: 0,
+            next: p,
+        };
+    }
+    let a = shuffle::shuffle_in(engine(p), mt, list, budget);
+    let e = a.next;
+    let next = parts_with(e, p);
+    Ordered {
+        refusal: a.refusal,
+        used: a.used,
         next,
     }
 }

@@ -105,6 +105,15 @@ pub struct Started {
     pub next: Parts,
 }
 
+/// The words used for a new order, and the generator after them.
+#[repr(C)]
+#[derive(Clone, Copy, Debug, PartialEq)]
+pub struct Ordered {
+    pub refusal: u32,
+    pub used: u32,
+    pub next: Parts,
+}
+
 unsafe extern "C" {
     pub safe fn vrd_xoshiro_with_seed(seed: u64) -> Parts;
     pub safe fn vrd_mersenne_twister_with_seed(seed: u32, table: &mut Table) -> Parts;
@@ -143,6 +152,7 @@ unsafe extern "C" {
     fn vrd_make(kind: u32, seed: *const u8, length: usize, table: &mut Table) -> Made;
     fn vrd_fill_bytes(parts: Parts, table: &mut Table, dest: *mut u8, length: usize) -> Moved;
     fn vrd_choose(parts: Parts, table: &mut Table, list: *const u32, length: usize, budget: u32) -> Chosen;
+    fn vrd_shuffle(parts: Parts, table: &mut Table, list: *mut u32, length: usize, budget: u32) -> Ordered;
     fn vrd_rand_slice(
         parts: Parts,
         table: &mut Table,
@@ -175,4 +185,10 @@ pub fn choose(parts: Parts, table: &mut Table, list: &[u32], budget: u32) -> Cho
 pub fn rand_slice(parts: Parts, table: &mut Table, list: &[u32], window: usize, budget: u32) -> Started {
     // SAFETY: address and length are those of one slice.
     unsafe { vrd_rand_slice(parts, table, list.as_ptr(), list.len(), window, budget) }
+}
+
+/// The list in another order.
+pub fn shuffle(parts: Parts, table: &mut Table, list: &mut [u32], budget: u32) -> Ordered {
+    // SAFETY: address and length are those of one slice, which nothing else uses meanwhile.
+    unsafe { vrd_shuffle(parts, table, list.as_mut_ptr(), list.len(), budget) }
 }

@@ -11,8 +11,8 @@ use vrd_original::Random;
 /// What a draw answers: refusal, value, words used, and the small parts after it.
 type Answer<V> = (u32, V, u32, Parts);
 
-/// More words than any draw here takes.
-const MANY_WORDS: u32 = 2_000;
+/// More words than any call here takes: a shuffle of 65,536 takes at least one for each entry but the last.
+const MANY_WORDS: u32 = 80_000;
 
 pub fn compare(tally: &mut Tally) {
     for (kind, name) in KINDS.into_iter().enumerate() {
@@ -28,6 +28,7 @@ pub fn compare(tally: &mut Tally) {
         });
         tally.row(name, "vrd_choose", |row| choose(row, kind));
         tally.row(name, "vrd_rand_slice", |row| rand_slice(row, kind));
+        tally.row(name, "vrd_shuffle", |row| shuffle(row, kind));
     }
 }
 
@@ -218,6 +219,37 @@ fn rand_slice(row: &mut Row, kind: usize) {
                 for _ in 0..3 {
                     draw(row, &mut original, 1, &what, value, port);
                 }
+            }
+        }
+    }
+}
+
+/// Every length up to 40 and the longest; refused, the list is as it came.
+fn shuffle(row: &mut Row, kind: usize) {
+    for (place, source) in sources(kind).into_iter().enumerate() {
+        let long: &[u32] = if place == 0 { &[1_000, 65_535, 65_536] } else { &[100, 1_000] };
+        for length in (0..=40).chain(long.iter().copied()) {
+            let list: Vec<u32> = (0..length).map(|i| i * 7 + 3).collect();
+            let mut original = source.clone();
+            let mut wanted = list.clone();
+            original.shuffle(&mut wanted);
+            let used = words_between(&source, &original);
+            row.drew(used.into());
+            if used >= length.max(1) {
+                row.rejected();
+            }
+            let (start, end) = (read(&source), read(&original));
+            let mut budgets = vec![used, used + 1, u32::MAX];
+            if used > 0 {
+                budgets.extend([0, used / 2, used - 1]);
+            }
+            for budget in budgets {
+                let mut g = start.clone();
+                let mut found = list.clone();
+                let a = port::shuffle(g.parts, &mut g.table, &mut found, budget);
+                g.parts = a.next;
+                let expected = if budget >= used { (0, used, &wanted, &end) } else { (8, 0, &list, &start) };
+                row.case(expected, (a.refusal, a.used, &found, &g), || format!("shuffle of {length}, budget {budget}"));
             }
         }
     }

@@ -83,6 +83,11 @@ fn no_kind(row: &mut Row) {
             let a = port::rand_slice(g.parts, &mut g.table, &[], 0, 0);
             (a.refusal, a.start as u64 + u64::from(a.used), a.next)
         });
+        check("vrd_shuffle", &mut |g| {
+            let mut list = [1, 2, 3];
+            let a = port::shuffle(g.parts, &mut g.table, &mut list, 0);
+            (a.refusal, u64::from(list != [1, 2, 3]) + u64::from(a.used), a.next)
+        });
         check("vrd_fill_bytes", &mut |g| {
             let mut buffer = [0xA5; 100];
             let a = port::fill_bytes(g.parts, &mut g.table, &mut buffer);
@@ -102,7 +107,7 @@ fn no_kind(row: &mut Row) {
 
 /// The other refusals, each at budget 0 too, so that 8 comes last. Nothing moves.
 fn refusals(row: &mut Row, kind: usize) {
-    let long = vec![0; 65_537];
+    let long: Vec<u32> = (0..65_537).collect();
     for original in starts::all(kind) {
         let start = read(&original);
         for budget in [0, 100] {
@@ -139,6 +144,11 @@ fn refusals(row: &mut Row, kind: usize) {
                     (a.refusal, u64::from(a.value) + u64::from(a.used) + a.place as u64, a.next)
                 });
             }
+            check(5, "shuffle of 65537".into(), &mut |g| {
+                let mut list = long.clone();
+                let a = port::shuffle(g.parts, &mut g.table, &mut list, budget);
+                (a.refusal, u64::from(list != long) + u64::from(a.used), a.next)
+            });
             let windows = [
                 (4, 0, 0),
                 (4, 0, 9),
