@@ -4,6 +4,7 @@
 //!
 //! Usage: bench [SEED [WORDS]]; without arguments the seed is 42 and the words are 10^8.
 
+mod filling;
 mod machine;
 mod original;
 mod port_side;
@@ -76,7 +77,7 @@ fn report() -> Result<(), String> {
     for line in lines {
         println!("{line}");
     }
-    Ok(())
+    filling::report(seed)
 }
 
 /// The whole number given as the program's k-th argument, if there is one.
