@@ -13,21 +13,9 @@ split-first : mixed (nextState 1234567) ≡ 6457827717110365317
 unfolding mixed
 split-first = refl
 
-split-second : mixed (nextState (nextState 1234567)) ≡ 3203168211198807973
-unfolding mixed
-split-second = refl
-
 first : result small ≡ 41943041
 unfolding result
 first = refl
-
-second : result (stepped small) ≡ 58720359
-unfolding result stepped
-second = refl
-
-fourth : result (stepped (stepped (stepped small))) ≡ 3591011842654386
-unfolding result stepped
-fourth = refl
 
 jump : jumped small ≡ parts 0x8c7a153956b5f3d1 0x701f1a713401d85e 0x6527f66a65469085 0x8386b786c4408050
 unfolding jumped jumping turned stepped
