@@ -1,14 +1,12 @@
--- When the twister's table stays as it came: at every word of the other kinds, and at the twister's own words but for the renewals.
--- Assumes nothing.
+-- The kinds that leave the twister's table as it came, at every word. Assumes nothing.
 use mathlib.Core.Path.{_≡_, refl, _∙_, ap}
 use mathlib.Core.Bool.{Bool, true, false, true≢false}
 use mathlib.Core.List.{List}
-use Prim.Native.Nat.{ℕ, zero, suc, _<_}
+use Prim.Native.Nat.{ℕ, zero, suc}
 use Rattle.mersenne_twister.specs.declared.MersenneTwister as twister-type
-use Rattle.mersenne_twister.specs.DrawLaws.{in-low}
 use Rattle.random.specs.declared.backend.Backend.{Backend}
 use Rattle.random.specs.declared.backend.Backend.the-variants.{Xoshiro256PlusPlus, MersenneTwister, Pcg32, Pcg64}
-use Rattle.random.specs.Generator.{Gen, stepBy, step, advance, Drawn, drawn32}
+use Rattle.random.specs.Generator.{Gen, stepBy, step, advance}
 use Rattle.random.specs.Lent.{lent}
 use Rattle.random.specs.declared.engine.Engine.{Engine}
 
@@ -18,17 +16,6 @@ onTable (Xoshiro256PlusPlus x) = false
 onTable MersenneTwister = true
 onTable (Pcg32 p) = false
 onTable (Pcg64 p) = false
-
--- a word at a position below 624 leaves it
-ready-by : (b : Backend) (t : twister-type.MersenneTwister) → t .mti < 624 → stepBy b t .twister .mt ≡ t .mt
-ready-by (Xoshiro256PlusPlus x) t h = refl
-ready-by MersenneTwister t h = ap (λ d. d .next .mt) (in-low (t .mt) (t .mti) h)
-ready-by (Pcg32 p) t h = refl
-ready-by (Pcg64 p) t h = refl
-
-pub ready-keeps : {d : Drawn} (e : Engine) (m : List ℕ) → e .mti < 624 → d ≡ drawn32 (lent e m) → d .next .twister .mt ≡ m
-unfolding step drawn32
-ready-keeps e m h q = ap (λ (d : Drawn). d .next .twister .mt) q ∙ ready-by (e .backend) (lent e m .twister) h
 
 -- the kinds that don't draw from the table leave it at every word
 kept-by : (b : Backend) (t : twister-type.MersenneTwister) → onTable b ≡ false → (onTable (stepBy b t .backend) ≡ false) × (stepBy b t .twister ≡ t)

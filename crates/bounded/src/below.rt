@@ -17,9 +17,6 @@ use random::Backend;
 use random::Engine;
 use random::Random;
 
-// Below this position no word renews the table, whatever the kind.
-const READY: u32 = 624;
-
 // Whether the kind draws from the table.
 pub fn on_table(backend: Backend) -> bool
     ensures { λ b. ⌜ b ≡ onTable backend ⌝ }
@@ -75,8 +72,8 @@ pub fn bounded_in(e: Engine, mt: &mut [u32; 624], r: u32, budget: u32) -> Engine
     ensures small { λ a. ⌜ Below r a ⌝ }
 {
     if budget > 0 {
-        if e.mti < READY {
-            let w = random::next_u32(e, mt);
+        if e.mti < mersenne_twister::END {
+            let w = random::next_ready(e, mt);
             if words::is_good(w.word, r) {
                 let next = w.next;
                 return accept_in(words::quotient(w.word, r), 1, next);

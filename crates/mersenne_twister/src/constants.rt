@@ -21,4 +21,4 @@ pub(crate) const N: usize = 624;
 pub(crate) const M: usize = 397;
 
 // The position at which the next draw twists first.
-pub(crate) const END: u32 = 624;
+pub const END: u32 = 624;

@@ -5,6 +5,7 @@ mod word;
 
 ghost use mathlib.Core.Path.{_≡_};
 ghost use Rattle.mersenne_twister.specs.Table.{held, folded, storedPosition, seeded, twisted, drawn, drawn64};
+pub use constants::END;
 pub use table::Step;
 pub use table::Step64;
 pub use table::fold_seed;
@@ -14,6 +15,7 @@ pub use table::rand_in;
 pub use table::seed_in;
 pub use table::stored_position;
 pub use table::twist_in;
+pub use word::temper_word;
 
 #[repr(C)]
 pub struct MersenneTwister {

@@ -24,7 +24,7 @@ pub(crate) fn follow_word(u: u32, l: u32, m: u32) -> u32
 }
 
 // The word that is given out for the word `x` of the table.
-pub(crate) fn temper_word(x: u32) -> u32
+pub fn temper_word(x: u32) -> u32
     ensures { λ r. ⌜ r ≡ temper x ⌝ }
 {
     let mut y = x;

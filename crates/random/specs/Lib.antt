@@ -2,5 +2,7 @@
 pub mod Generator
 pub mod GeneratorLaws
 pub mod Lent
+pub mod Ready
+pub mod ReadyLaws
 pub mod Words
 pub mod WordsLaws

@@ -3,6 +3,8 @@ ghost use mathlib.Core.Path.{_≡_};
 ghost use Rattle.random.specs.Generator.{drawn32, drawn64, drawnOwn, drawnXor, widthOf};
 ghost use Rattle.random.specs.Lent.{lent, given, given64, engineWith, answerOf, answer64Of};
 use crate::backend::Backend;
+use crate::ready::made_ready;
+use crate::ready::next_ready;
 
 // All of a generator but the table.
 pub struct Engine {
@@ -30,7 +32,7 @@ pub struct EngineWord64 {
 }
 
 // A word with the engine after it, put together.
-fn answer(word: u32, backend: Backend, mti: u32) -> EngineWord
+pub(crate) fn answer(word: u32, backend: Backend, mti: u32) -> EngineWord
     ensures { λ r. ⌜ r ≡ answerOf word backend mti ⌝ }
 {
     EngineWord {
@@ -52,29 +54,8 @@ fn answer64(word: u64, backend: Backend, mti: u32) -> EngineWord64
 pub fn next_u32(e: Engine, mt: &mut [u32; 624]) -> EngineWord
     ensures { λ r. ⌜ given r (now (mt .exit)) ≡ drawn32 (lent e (now (mt .entry))) ⌝ }
 {
-    let mti = e.mti;
-    let backend = e.backend;
-    match backend {
-        Backend::Xoshiro256PlusPlus(x) => {
-            let d = x.next_u32();
-            let next = d.next;
-            answer(d.word, Backend::Xoshiro256PlusPlus(next), mti)
-        }
-        Backend::MersenneTwister => {
-            let s = mersenne_twister::rand_in(mt, mti);
-            answer(s.word, Backend::MersenneTwister, s.mti)
-        }
-        Backend::Pcg32(p) => {
-            let d = p.next_u32();
-            let next = d.next;
-            answer(d.word, Backend::Pcg32(next), mti)
-        }
-        Backend::Pcg64(p) => {
-            let d = p.next_u32();
-            let next = d.next;
-            answer(d.word, Backend::Pcg64(next), mti)
-        }
-    }
+    let ready = made_ready(e, mt);
+    next_ready(ready, mt)
 }
 
 // The next word of 64 bits, by the kind's own order of halves.

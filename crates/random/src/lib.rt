@@ -3,6 +3,7 @@
 mod backend;
 mod by_value;
 mod engine;
+mod ready;
 
 pub use backend::Backend;
 pub use backend::Random;
@@ -24,3 +25,4 @@ pub use engine::next_u32;
 pub use engine::next_u64;
 pub use engine::pseudo_in;
 pub use engine::width;
+pub use ready::next_ready;
