@@ -7,3 +7,7 @@ mod list_calls;
 mod making_calls;
 mod state_calls;
 mod word_calls;
+
+pub use boundary::Parts;
+pub use boundary::engine;
+pub use boundary::parts_with;
