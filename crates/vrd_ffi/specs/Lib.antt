@@ -15,3 +15,11 @@ pub mod DrawCalls
 pub mod DrawCallsLaws
 pub mod ListCalls
 pub mod ListCallsLaws
+pub mod ByValue
+pub mod HeldWords
+pub mod HeldState
+pub mod HeldStateLaws
+pub mod HeldMaking
+pub mod HeldFloats
+pub mod HeldDraws
+pub mod HeldLists

@@ -20,6 +20,13 @@ pub struct Parts {
     pub w3: u64,
 }
 
+// A generator that holds its table.
+#[repr(C)]
+pub struct Generator {
+    pub parts: Parts,
+    pub table: [u32; 624],
+}
+
 // The engine of these parts; kinds above 3 are not asked for.
 pub fn engine(p: Parts) -> Engine
     ensures { λ r. ⌜ r ≡ engineOf p ⌝ }

@@ -3,6 +3,12 @@
 mod boundary;
 mod draw_calls;
 mod float_calls;
+mod held_draws;
+mod held_floats;
+mod held_lists;
+mod held_making;
+mod held_state;
+mod held_words;
 mod list_calls;
 mod making_calls;
 mod state_calls;

@@ -26,7 +26,7 @@ pub struct Made {
 }
 
 // A generator without its table.
-fn parts_of(g: Random) -> Parts
+pub fn parts_of(g: Random) -> Parts
     ensures { λ r. ⌜ r ≡ partsOf g ⌝ }
 {
     parts_with(engine_of(g), zero_parts())

@@ -1,0 +1,22 @@
+-- `vrd_int_by_value` meets its contract. Assumes nothing.
+use mathlib.Core.Path.{_∙_}
+use borrow.Author.Needs.{needs}
+use Rattle.signed.specs.Callers.{arg-read}
+use Rattle.vrd_ffi.proofs.held_draws.vrd_int_by_value.Statement.{statement}
+use Rattle.vrd_ffi.proofs.held_draws.vrd_int_by_value.Tie as tie
+
+vrd-int-requires : tie.Need-vrd-int-requires
+vrd-int-requires c κs = search needs
+
+held-integer-requires : tie.Need-held-integer-requires
+held-integer-requires c κs = search needs
+
+returns : tie.Need-returns
+returns c =
+    let call = c .before in
+    let f = call .before .before .before .before .fits in
+    let drawn = rw (arg-read (f .min), arg-read (f .max)) at (call .vrd-int .ensures) in
+    c .held-integer .ensures ∙ drawn
+
+pub vrd-int-by-value-spec : {M : Type 1} → statement M
+vrd-int-by-value-spec = tie.close (tie.spec vrd-int-requires held-integer-requires returns)

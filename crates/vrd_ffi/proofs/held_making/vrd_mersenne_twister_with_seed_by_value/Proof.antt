@@ -1,0 +1,19 @@
+-- `vrd_mersenne_twister_with_seed_by_value` meets its contract. Assumes nothing.
+use borrow.Author.Needs.{needs}
+use Rattle.vrd_ffi.proofs.held_making.vrd_mersenne_twister_with_seed_by_value.Statement.{
+  statement,
+}
+use Rattle.vrd_ffi.proofs.held_making.vrd_mersenne_twister_with_seed_by_value.Tie as tie
+
+new-mersenne-twister-with-seed-requires : tie.Need-new-mersenne-twister-with-seed-requires
+new-mersenne-twister-with-seed-requires c κs = search needs
+
+generator-from-requires : tie.Need-generator-from-requires
+generator-from-requires c κs = search needs
+
+returns : tie.Need-returns
+returns c = rw (c .generator-from .ensures, c .before .new-mersenne-twister-with-seed .ensures)
+
+pub vrd-mersenne-twister-with-seed-by-value-spec : {M : Type 1} → statement M
+vrd-mersenne-twister-with-seed-by-value-spec =
+    tie.close (tie.spec new-mersenne-twister-with-seed-requires generator-from-requires returns)

@@ -1,0 +1,15 @@
+-- `vrd_set_mti_by_value` meets its contract. Assumes nothing.
+use mathlib.Core.Path.{ap}
+use borrow.Author.Needs.{needs}
+use Rattle.vrd_ffi.specs.HeldState.{beside}
+use Rattle.vrd_ffi.proofs.held_state.vrd_set_mti_by_value.Statement.{statement}
+use Rattle.vrd_ffi.proofs.held_state.vrd_set_mti_by_value.Tie as tie
+
+vrd-set-mti-requires : tie.Need-vrd-set-mti-requires
+vrd-set-mti-requires c κs = search needs
+
+returns : tie.Need-returns
+returns c = ap (beside _) (c .before .vrd-set-mti .ensures)
+
+pub vrd-set-mti-by-value-spec : {M : Type 1} → statement M
+vrd-set-mti-by-value-spec = tie.close (tie.spec vrd-set-mti-requires returns)

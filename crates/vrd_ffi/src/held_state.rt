@@ -1,0 +1,124 @@
+// The generator's state by value: seeded anew, split, the twister's position and twist, and equality of two generators.
+ghost use mathlib.Core.Path.{_≡_};
+ghost use Rattle.vrd_ffi.specs.ByValue.{byValue};
+ghost use Rattle.vrd_ffi.specs.StateCalls.{seedAt, twistAt, placed, mtiAt, Same};
+ghost use Rattle.vrd_ffi.specs.HeldState.{heldMoved, setMtiHeld, heldDivided, splitHeld};
+use crate::boundary::Generator;
+use crate::state_calls::Equality;
+use crate::state_calls::Position;
+use crate::state_calls::vrd_mti;
+use crate::state_calls::vrd_same;
+use crate::state_calls::vrd_seed;
+use crate::state_calls::vrd_set_mti;
+use crate::state_calls::vrd_split;
+use crate::state_calls::vrd_twist;
+use words::refusal;
+
+// The generator after the call.
+#[repr(C)]
+pub struct HeldMoved {
+    pub refusal: u32,
+    pub next: Generator,
+}
+
+// The two generators of one; refused, the parent is as it came and the child is kind 0 with four zero words and a table of zeros.
+#[repr(C)]
+pub struct HeldDivided {
+    pub refusal: u32,
+    pub parent: Generator,
+    pub child: Generator,
+}
+
+#[no_mangle]
+pub extern "C" fn vrd_seed_by_value(g: Generator, seed: u32) -> HeldMoved
+    ensures { λ a. ⌜ heldMoved a ≡ byValue seedAt g seed ⌝ }
+{
+    let p = g.parts;
+    let mut table = g.table;
+    let a = vrd_seed(p, &mut table, seed);
+    let parts = a.next;
+    let next = Generator { parts, table };
+    HeldMoved {
+        refusal: a.refusal,
+        next,
+    }
+}
+
+#[no_mangle]
+pub extern "C" fn vrd_twist_by_value(g: Generator) -> HeldMoved
+    ensures { λ a. ⌜ heldMoved a ≡ byValue twistAt g ⌝ }
+{
+    let p = g.parts;
+    let mut table = g.table;
+    let a = vrd_twist(p, &mut table);
+    let parts = a.next;
+    let next = Generator { parts, table };
+    HeldMoved {
+        refusal: a.refusal,
+        next,
+    }
+}
+
+#[no_mangle]
+pub extern "C" fn vrd_set_mti_by_value(g: Generator, value: u32) -> HeldMoved
+    ensures { λ a. ⌜ heldMoved a ≡ byValue setMtiHeld g value ⌝ }
+{
+    let p = g.parts;
+    let table = g.table;
+    let a = vrd_set_mti(p, value);
+    let parts = a.next;
+    let next = Generator { parts, table };
+    HeldMoved {
+        refusal: a.refusal,
+        next,
+    }
+}
+
+#[no_mangle]
+pub extern "C" fn vrd_mti_by_value(g: Generator) -> Position
+    ensures { λ a. ⌜ placed a ≡ mtiAt (g .parts) ⌝ }
+{
+    let p = g.parts;
+    vrd_mti(p)
+}
+
+#[no_mangle]
+pub extern "C" fn vrd_split_by_value(g: Generator) -> HeldDivided
+    ensures { λ a. ⌜ heldDivided a ≡ byValue splitHeld g ⌝ }
+{
+    let p = g.parts;
+    let table = g.table;
+    let d = vrd_split(p);
+    let old = d.parent;
+    let fresh = d.child;
+    let parent = Generator { parts: old, table };
+    if d.refusal == refusal::ANSWERED {
+        let child = Generator {
+            parts: fresh,
+            table,
+        };
+        return HeldDivided {
+            refusal: refusal::ANSWERED,
+            parent,
+            child,
+        };
+    }
+    let child = Generator {
+        parts: fresh,
+        table: [0; 624],
+    };
+    HeldDivided {
+        refusal: d.refusal,
+        parent,
+        child,
+    }
+}
+
+#[no_mangle]
+pub extern "C" fn vrd_same_by_value(g: Generator, other: Generator) -> Equality
+    ensures { λ a. ⌜ Same a (g .parts) (g .table) (other .parts) (other .table) ⌝ }
+{
+    let p = g.parts;
+    let q = other.parts;
+    vrd_same(p, &g.table, q, &other.table)
+}

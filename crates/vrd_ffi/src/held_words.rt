@@ -1,0 +1,98 @@
+// Words as they come, by value: of 32 bits, of 64, of 64 read as signed, and 32 words XORed.
+ghost use mathlib.Core.Path.{_≡_};
+ghost use Rattle.vrd_ffi.specs.ByValue.{byValue};
+ghost use Rattle.vrd_ffi.specs.WordCalls.{randAt, u64At, i64At, pseudoAt};
+ghost use Rattle.vrd_ffi.specs.HeldWords.{heldWord32, heldWord64, heldSigned64};
+use crate::boundary::Generator;
+use crate::word_calls::vrd_i64;
+use crate::word_calls::vrd_pseudo;
+use crate::word_calls::vrd_rand;
+use crate::word_calls::vrd_u64;
+
+// A word of 32 bits, and the generator after it.
+#[repr(C)]
+pub struct HeldWord32 {
+    pub refusal: u32,
+    pub word: u32,
+    pub next: Generator,
+}
+
+// A word of 64 bits, and the generator after it.
+#[repr(C)]
+pub struct HeldWord64 {
+    pub refusal: u32,
+    pub word: u64,
+    pub next: Generator,
+}
+
+// A word of 64 bits read as signed, and the generator after it.
+#[repr(C)]
+pub struct HeldSigned64 {
+    pub refusal: u32,
+    pub word: i64,
+    pub next: Generator,
+}
+
+#[no_mangle]
+pub extern "C" fn vrd_rand_by_value(g: Generator) -> HeldWord32
+    ensures { λ a. ⌜ heldWord32 a ≡ byValue randAt g ⌝ }
+{
+    let p = g.parts;
+    let mut table = g.table;
+    let a = vrd_rand(p, &mut table);
+    let parts = a.next;
+    let next = Generator { parts, table };
+    HeldWord32 {
+        refusal: a.refusal,
+        word: a.word,
+        next,
+    }
+}
+
+#[no_mangle]
+pub extern "C" fn vrd_u64_by_value(g: Generator) -> HeldWord64
+    ensures { λ a. ⌜ heldWord64 a ≡ byValue u64At g ⌝ }
+{
+    let p = g.parts;
+    let mut table = g.table;
+    let a = vrd_u64(p, &mut table);
+    let parts = a.next;
+    let next = Generator { parts, table };
+    HeldWord64 {
+        refusal: a.refusal,
+        word: a.word,
+        next,
+    }
+}
+
+#[no_mangle]
+pub extern "C" fn vrd_i64_by_value(g: Generator) -> HeldSigned64
+    ensures { λ a. ⌜ heldSigned64 a ≡ byValue i64At g ⌝ }
+{
+    let p = g.parts;
+    let mut table = g.table;
+    let a = vrd_i64(p, &mut table);
+    let parts = a.next;
+    let next = Generator { parts, table };
+    HeldSigned64 {
+        refusal: a.refusal,
+        word: a.word,
+        next,
+    }
+}
+
+#[no_mangle]
+pub extern "C" fn vrd_pseudo_by_value(g: Generator) -> HeldWord32
+    ensures { λ a. ⌜ heldWord32 a ≡ byValue pseudoAt g ⌝ }
+{
+    let p = g.parts;
+    let mut table = g.table;
+    let a = vrd_pseudo(p, &mut table);
+    let parts = a.next;
+    let next = Generator { parts, table };
+    HeldWord32 {
+        refusal: a.refusal,
+        word: a.word,
+        next,
+    }
+}
