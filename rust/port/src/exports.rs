@@ -1,5 +1,7 @@
 //! The names, arguments and answers of the exports: the one place to change when the Rattle crate `bench_ffi` does.
 
+use vrd::exports::{Table, Wide};
+
 /// Four words.
 #[repr(C)]
 #[derive(Clone, Copy, Debug, Eq, PartialEq)]
@@ -18,14 +20,6 @@ pub struct Pcg32 {
     pub inc: u64,
 }
 
-/// A 128-bit number as two words.
-#[repr(C)]
-#[derive(Clone, Copy, Debug, Eq, PartialEq)]
-pub struct Wide {
-    pub high: u64,
-    pub low: u64,
-}
-
 /// State and increment in use.
 #[repr(C)]
 #[derive(Clone, Copy, Debug, Eq, PartialEq)]
@@ -33,9 +27,6 @@ pub struct Pcg64 {
     pub state: Wide,
     pub inc: Wide,
 }
-
-/// The twister's table.
-pub type Table = [u32; 624];
 
 /// The table and the position, held together.
 #[repr(C)]

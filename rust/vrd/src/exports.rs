@@ -1,6 +1,29 @@
-//! The names, arguments and answers of the facade's exports: the one place to change when the Rattle crate `vrd_ffi` does.
+//! The names, arguments and answers of the facade's exports: the one place to change when the Rattle crate `vrd_ffi` does, and
+//! the only one with unsafe code. The exports are proved total: they ask nothing of a caller beyond the types of their
+//! arguments. That is why they are declared as safe functions, but for those that take a slice by its address.
 
-use crate::{Table, Wide};
+/// The twister's table.
+pub type Table = [u32; 624];
+
+/// A 128-bit number as two words.
+#[repr(C)]
+#[derive(Clone, Copy, Debug, Eq, PartialEq)]
+pub struct Wide {
+    pub high: u64,
+    pub low: u64,
+}
+
+impl From<u128> for Wide {
+    fn from(value: u128) -> Self {
+        Self { high: (value >> 64) as u64, low: value as u64 }
+    }
+}
+
+impl From<Wide> for u128 {
+    fn from(value: Wide) -> Self {
+        (u128::from(value.high) << 64) | u128::from(value.low)
+    }
+}
 
 /// A generator without its table: the kind, the twister's position and the kind's small words.
 #[repr(C)]

@@ -1,0 +1,5 @@
+//! Has the exports of the facade proved, compiled and linked.
+
+fn main() {
+    archive::link("vrd_ffi");
+}
