@@ -1,0 +1,3 @@
+-- Floats and their bit patterns.
+pub mod Patterns
+pub mod NanLaws
