@@ -1,0 +1,84 @@
+-- The laws of a day laid out, and of the plan by its cases, for code that works them out.
+-- Assumes nothing.
+use mathlib.Core.Path.{_≡_, refl, sym, _∙_, ap}
+use mathlib.Core.List.{List, [], _∷_, _++_}
+use Prim.Native.Nat.{ℕ, zero, suc, _+_, _-_, _≤_, _<_, min}
+use native.Mathlib.Decide.{decLe}
+use native.Mathlib.Nat.{lt-of-not-le}
+use native.Mathlib.Omega.{arith}
+use borrow.Author.Tests.{eq-eqb, ne-eqb}
+use lib.ListN.{length, getD, set, replicate, length-append, length-set, length-replicate, getD-replicate, List·getD-append}
+use lib.Seq.{getD-append-add, getD-set-same, getD-set-other, ext-getD}
+use Rattle.words.specs.Refusal.{answered}
+use Rattle.words.specs.Draw.{Words}
+use Rattle.shuffle.specs.Shuffle.{shuffleBy, shuffled}
+use Rattle.day_plan.specs.Day.{blank, inletsFrom, laidOut, plannedDay, slotOf}
+
+pub inlets-length : (k n : ℕ) → length (inletsFrom k n) ≡ n
+unfolding inletsFrom
+inlets-length k zero = refl
+inlets-length k (suc n) = ap suc (inlets-length (k + 1) n)
+
+inlet-at : (k n j : ℕ) → j < n → getD (inletsFrom k n) j 0 ≡ k + j
+unfolding inletsFrom
+inlet-at k zero j h = absurd (omega arith)
+inlet-at k (suc n) zero h = omega arith
+inlet-at k (suc n) (suc j) h = inlet-at (k + 1) n j (omega arith) ∙ omega arith
+
+module _ (blanks n : ℕ) where
+  pub laid-length : length (laidOut blanks n) ≡ n
+  unfolding laidOut
+  laid-length = simp (length-append, length-replicate, inlets-length) (omega arith)
+
+  pub laid-slot : (j : ℕ) → j < n → getD (laidOut blanks n) j 0 ≡ slotOf blanks j
+  unfolding laidOut
+  laid-slot j h = elim (decLe blanks j) [ yes k ↦ inlet k | no k ↦ empty (lt-of-not-le k) ]
+    where
+      empty : j < blanks → getD (replicate (min blanks n) blank ++ inletsFrom 1 (n - blanks)) j 0 ≡ slotOf blanks j
+      empty k =
+          let short : j < length (replicate (min blanks n) blank) = simp length-replicate (omega arith) in
+          List·getD-append (replicate (min blanks n) blank) (inletsFrom 1 (n - blanks)) 0 j short ∙ getD-replicate (min blanks n) j blank 0 (omega arith) ∙ omega arith
+
+      inlet : blanks ≤ j → getD (replicate (min blanks n) blank ++ inletsFrom 1 (n - blanks)) j 0 ≡ slotOf blanks j
+      inlet k =
+          let split : j ≡ length (replicate (min blanks n) blank) + (j - blanks) = simp length-replicate (omega arith) in
+          let at = getD-append-add (replicate (min blanks n) blank) (inletsFrom 1 (n - blanks)) (j - blanks) 0 in
+          ap (λ (i : ℕ). getD (replicate (min blanks n) blank ++ inletsFrom 1 (n - blanks)) i 0) split ∙ at ∙ inlet-at 1 (n - blanks) (j - blanks) (omega arith) ∙ omega arith
+
+-- ---- a day laid out up to the slot i
+
+pub record LaidTo (blanks i : ℕ) (l₀ l : List ℕ) : Type 0 where
+  pub same-length : length l ≡ length l₀
+  pub within : i ≤ length l₀
+  pub laid : (j : ℕ) → j < i → getD l j 0 ≡ slotOf blanks j
+
+pub laid-start : {blanks : ℕ} {l : List ℕ} → LaidTo blanks 0 l l
+laid-start = record { same-length = refl; within = omega arith; laid = λ j h. absurd (omega arith) }
+
+module _ {blanks i : ℕ} {l₀ l : List ℕ} (h : LaidTo blanks i l₀ l) where
+  pub laid-on : {v : ℕ} → i < length l → v ≡ slotOf blanks i → LaidTo blanks (i + 1) l₀ (set l i v)
+  laid-on {v} more e = record {
+    same-length = length-set l i v ∙ h .same-length;
+    within = let same = h .same-length in omega arith;
+    laid = λ j k. elim (decLe i j) [ yes m ↦ here j (omega arith) | no m ↦ getD-set-other l i j v 0 (λ z. omega arith) ∙ h .laid j (lt-of-not-le m) ];
+  }
+    where
+      here : (j : ℕ) → j ≡ i → getD (set l i v) j 0 ≡ slotOf blanks j
+      here j q = rw q (getD-set-same l i v 0 more ∙ e)
+
+  pub laid-done : length l ≤ i → l ≡ laidOut blanks (length l₀)
+  laid-done end =
+      let same = h .same-length in
+      let each : (j : ℕ) → j < length l → getD l j 0 ≡ getD (laidOut blanks (length l₀)) j 0 = λ j k. h .laid j (omega arith) ∙ sym (laid-slot blanks (length l₀) j (omega arith)) in
+      ext-getD 0 l (laidOut blanks (length l₀)) (same ∙ sym (laid-length blanks (length l₀))) each
+
+-- ---- the plan by its cases
+
+module _ (s : Words) (blanks : ℕ) (l : List ℕ) (budget : ℕ) where
+  pub plan-answered : shuffleBy s (length l) budget .refusal ≡ answered → plannedDay s blanks l budget ≡ shuffled s (laidOut blanks (length l)) budget
+  unfolding plannedDay
+  plan-answered h = rw (eq-eqb (shuffleBy s (length l) budget .refusal) answered h)
+
+  pub plan-refused : (shuffleBy s (length l) budget .refusal ≡ answered → ⊥) → plannedDay s blanks l budget ≡ l
+  unfolding plannedDay
+  plan-refused h = rw (ne-eqb (shuffleBy s (length l) budget .refusal) answered h)
