@@ -1,5 +1,7 @@
-//! Has the exports of the generators proved, compiled and linked.
+//! Has the exports of the generators and of the benchmark's draws proved, compiled and linked.
 
 fn main() {
-    archive::link("bench_ffi");
+    for name in ["bench_ffi", "bench_draws", "bench_draws_by_value"] {
+        archive::link(name);
+    }
 }

@@ -1,9 +1,7 @@
-// The loops at the boundary: the generator as `vrd_ffi` has it, its small words by value and its table lent.
+// The loop at the boundary: the generator as `vrd_ffi` has it, its small words by value and its table lent.
 ghost use mathlib.Core.Path.{_≡_};
-ghost use Rattle.vrd_ffi.specs.Boundary.{generatorOf, engineOf};
-ghost use Rattle.random.specs.Words.{joinedWith};
-ghost use Rattle.bench_draws.specs.Sums.{told, drawnIn, drawnByValue, generatorsOnly};
-use crate::loops::draws_by_value;
+ghost use Rattle.vrd_ffi.specs.Boundary.{generatorOf};
+ghost use Rattle.bench_draws.specs.Sums.{told, drawnIn};
 use crate::loops::draws_in;
 use vrd_ffi::Parts;
 
@@ -28,29 +26,6 @@ pub extern "C" fn bench_draws_lent(
     let s = draws_in(vrd_ffi::engine(p), table, r, budget, n);
     let e = s.next;
     let next = vrd_ffi::parts_with(e, p);
-    Sums {
-        sum: s.sum,
-        used: s.used,
-        next,
-    }
-}
-
-#[no_mangle]
-pub extern "C" fn bench_draws_by_value(
-    p: Parts,
-    table: &mut [u32; 624],
-    r: u32,
-    budget: u32,
-    n: u64,
-) -> Sums
-    ensures { λ s. ⌜ told s (now (table .exit)) ≡ generatorsOnly (drawnByValue r budget n (joinedWith (engineOf p) (now (table .entry)))) ⌝ }
-{
-    let g = random::with_table(vrd_ffi::engine(p), *table);
-    let s = draws_by_value(g, r, budget, n);
-    let after = s.next;
-    let mt = after.twister.mt;
-    *table = mt;
-    let next = vrd_ffi::parts_with(random::engine_of(after), p);
     Sums {
         sum: s.sum,
         used: s.used,

@@ -1,24 +1,25 @@
-//! Times n words of each generator: the original's loop and the port's exported loop, from the same state, made from a
-//! seed that is known at run time only. Each answers the XOR of its words; the two XORs and the states after are
-//! compared before any time is printed. The runs of the two sides alternate, and the least of five counts.
+//! Times the port against the original, both at release, in one run: words, draws, calls one at a time, fillings and shuffles, on every kind
+//! and from the same seed, which is known at run time only. What the two sides answer, with the generators after it, is compared before
+//! any time is printed. The runs of the two sides alternate, and the least of five counts.
 //!
-//! Usage: bench [SEED [WORDS]]; without arguments the seed is 42 and the words are 10^8.
+//! Usage: bench [SEED [WORDS [PICTURE]]]; without arguments the seed is 42 and the words are 10^8. PICTURE is a file to write as SVG.
 
-mod filling;
+mod bulk;
+mod calls;
+mod draws;
+mod endless;
+mod kinds;
 mod machine;
-mod original;
-mod port_side;
+mod picture;
 mod timing;
+mod words;
 
 use std::hint::black_box;
 use std::process::ExitCode;
-use timing::{Line, Sides};
+use timing::Line;
 
-/// Words of each run, but for the twister by value.
+/// Words of a loop. Draws and single calls are a tenth of them.
 const WORDS: u64 = 100_000_000;
-
-/// The twister by value copies its table in and out at each word, so it gets fewer of them.
-const FEWER: u64 = 10;
 
 fn main() -> ExitCode {
     match report() {
@@ -30,58 +31,37 @@ fn main() -> ExitCode {
     }
 }
 
-/// Times every generator, then prints the table.
+/// Times every case, then prints the table.
 fn report() -> Result<(), String> {
-    let seed = black_box(argument(1)?.unwrap_or(42));
-    let words = black_box(argument(2)?.unwrap_or(WORDS));
-    let xoshiro = Sides {
-        generator: "Xoshiro256PlusPlus (u64 words)",
-        words,
-        original: &|n| original::xoshiro(seed, n),
-        port: &|n| port_side::xoshiro(seed, n),
-    };
-    let pcg32 = Sides {
-        generator: "Pcg32 (u32 words)",
-        words,
-        original: &|n| original::pcg32(seed, n),
-        port: &|n| port_side::pcg32(seed, n),
-    };
-    let pcg64 = Sides {
-        generator: "Pcg64 (u64 words)",
-        words,
-        original: &|n| original::pcg64(seed.into(), n),
-        port: &|n| port_side::pcg64(seed.into(), n),
-    };
-    let lent = Sides {
-        generator: "MersenneTwister, lent table (u32 words)",
-        words,
-        original: &|n| original::twister(seed as u32, n),
-        port: &|n| port_side::twister_lent(seed as u32, n),
-    };
-    let by_value = Sides {
-        generator: "MersenneTwister, by value (u32 words)",
-        words: words / FEWER,
-        original: &|n| original::twister(seed as u32, n),
-        port: &|n| port_side::twister_by_value(seed as u32, n),
-    };
-    let lines: Vec<Line> = [
-        timing::measure(&xoshiro)?,
-        timing::measure(&pcg32)?,
-        timing::measure(&pcg64)?,
-        timing::measure(&lent)?,
-        timing::measure(&by_value)?,
-    ]
-    .into();
-    println!("{}; {}; seed {seed}; least of {} runs", machine::cpu_model(), env!("BENCH_RUSTC"), timing::RUNS);
-    println!("{:<40} {:>10} {:>17} {:>13} {:>6}", "generator", "words", "original ns/word", "port ns/word", "ratio");
-    for line in lines {
-        println!("{line}");
+    let seed = black_box(number(1)?.unwrap_or(42));
+    let words = black_box(number(2)?.unwrap_or(WORDS));
+    let few = words / 10;
+    let families = [words::cases(seed, words), draws::cases(seed, few), calls::cases(seed, few), bulk::cases(seed)];
+    let lines = families.iter().flatten().map(timing::measure).collect::<Result<Vec<Line>, String>>()?;
+    let title =
+        format!("{}; {}; seed {seed}; least of {} runs", machine::cpu_model(), env!("BENCH_RUSTC"), timing::RUNS);
+    println!("{title}");
+    println!(
+        "{:<40} {:<20} {:>10} {:<5} {:>11} {:>8} {:>6}",
+        "what", "kind", "count", "unit", "original ns", "port ns", "ratio"
+    );
+    for line in &lines {
+        let Line { what, kind, unit, count, original, port } = line;
+        println!("{what:<40} {kind:<20} {count:>10} {unit:<5} {original:>11.3} {port:>8.3} {:>6.2}", line.ratio());
     }
-    filling::report(seed)
+    println!("{}", endless::line()?);
+    match std::env::args().nth(3) {
+        Some(file) => {
+            std::fs::write(&file, picture::svg(&lines, &title)).map_err(|e| format!("{file} cannot be written: {e}"))
+        }
+        None => Ok(()),
+    }
 }
 
 /// The whole number given as the program's k-th argument, if there is one.
-fn argument(k: usize) -> Result<Option<u64>, String> {
+fn number(k: usize) -> Result<Option<u64>, String> {
     let Some(text) = std::env::args().nth(k) else { return Ok(None) };
-    text.parse().map(Some).map_err(|e| format!("'{text}' is not a whole number ({e}); usage: bench [SEED [WORDS]]"))
+    text.parse()
+        .map(Some)
+        .map_err(|e| format!("'{text}' is not a whole number ({e}); usage: bench [SEED [WORDS [PICTURE]]]"))
 }

@@ -1,8 +1,8 @@
 -- `bench_draws_by_value` meets its contract: the loop, its generator read out as parts and table. Assumes nothing.
-use Rattle.bench_draws.specs.Sums.{told-by-value}
+use Rattle.bench_draws_by_value.specs.Sums.{told-by-value}
 use borrow.Author.Needs.{needs}
-use Rattle.bench_draws.proofs.exports.bench_draws_by_value.Statement.{statement}
-use Rattle.bench_draws.proofs.exports.bench_draws_by_value.Tie as tie
+use Rattle.bench_draws_by_value.proofs.exports.bench_draws_by_value.Statement.{statement}
+use Rattle.bench_draws_by_value.proofs.exports.bench_draws_by_value.Tie as tie
 
 engine-requires : tie.Need-engine-requires
 engine-requires c κs = search needs

@@ -3,9 +3,9 @@ use mathlib.Core.Path.{_≡_}
 use Prim.Native.Nat.{_≤_, _-_}
 use native.Mathlib.Omega.{arith}
 use borrow.Author.Needs.{needs}
-use Rattle.bench_draws.specs.Sums.{drawnByValue, by-value-nowhere, by-value-further}
-use Rattle.bench_draws.proofs.loops.draws_by_value.Statement.{statement}
-use Rattle.bench_draws.proofs.loops.draws_by_value.Tie as tie
+use Rattle.bench_draws_by_value.specs.Sums.{drawnByValue, by-value-nowhere, by-value-further}
+use Rattle.bench_draws_by_value.proofs.loops.draws_by_value.Statement.{statement}
+use Rattle.bench_draws_by_value.proofs.loops.draws_by_value.Tie as tie
 
 abbrev Inv-loop : tie.InvT-loop
 Inv-loop r budget n next₀ sum₀ used₀ i₀ next sum used i = (i ≤ n) × (record { sum = sum; used = used; next = next } ≡ drawnByValue r budget i next₀)
