@@ -7,3 +7,5 @@ pub mod Wide
 pub mod WideLaws
 pub mod Bytes
 pub mod BytesLaws
+pub mod Promises
+pub mod PromisesLaws

@@ -1,7 +1,8 @@
 // Little-endian words of a list of bytes, where the Rust has `from_le_bytes`.
 ghost use mathlib.Core.Path.{_≡_};
 ghost use Prim.Native.Nat.{_<_};
-ghost use Rattle.wrapping.specs.Bytes.{byteAt, little};
+ghost use Rattle.wrapping.specs.Bytes.{byteAt};
+ghost use Rattle.wrapping.specs.Promises.{LeU32Promise, LeU64Promise};
 
 // The byte k places after the place `at`, as a word; 0 past the end.
 fn byte(s: &[u8], at: usize, k: usize) -> u64
@@ -17,7 +18,7 @@ fn byte(s: &[u8], at: usize, k: usize) -> u64
 
 // The word of the four bytes from the place `at` on, the lowest first.
 pub fn le_u32(s: &[u8], at: usize) -> u32
-    ensures { λ r. ⌜ r ≡ little 4 (now (s .entry)) at ⌝ }
+    ensures { λ r. ⌜ LeU32Promise (now (s .entry)) at r ⌝ }
 {
     let low = byte(s, at, 0) + byte(s, at, 1) * 0x100;
     (low + byte(s, at, 2) * 0x1_0000 + byte(s, at, 3) * 0x100_0000) as u32
@@ -25,7 +26,7 @@ pub fn le_u32(s: &[u8], at: usize) -> u32
 
 // The word of the eight bytes from the place `at` on, the lowest first.
 pub fn le_u64(s: &[u8], at: usize) -> u64
-    ensures { λ r. ⌜ r ≡ little 8 (now (s .entry)) at ⌝ }
+    ensures { λ r. ⌜ LeU64Promise (now (s .entry)) at r ⌝ }
 {
     byte(s, at, 0)
         + byte(s, at, 1) * 0x100

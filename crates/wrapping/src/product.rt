@@ -2,10 +2,11 @@
 ghost use mathlib.Core.Path.{_≡_};
 ghost use Rattle.wrapping.specs.Columns.{columnsOf};
 ghost use Rattle.wrapping.specs.Product.{lowerWord, upperWord};
+ghost use Rattle.wrapping.specs.Promises.{MulU32Promise, MulU64Promise, UpperU64Promise};
 
 // a * b, modulo 2^32.
 pub fn mul_u32(a: u32, b: u32) -> u32
-    ensures { λ r. ⌜ r ≡ lowerWord 32 a b ⌝ }
+    ensures { λ r. ⌜ MulU32Promise a b r ⌝ }
 {
     ((a as u64) * (b as u64) % 0x1_0000_0000) as u32
 }
@@ -60,14 +61,14 @@ fn upper(f: Factors) -> u64
 
 // a * b, modulo 2^64.
 pub fn mul_u64(a: u64, b: u64) -> u64
-    ensures { λ r. ⌜ r ≡ lowerWord 64 a b ⌝ }
+    ensures { λ r. ⌜ MulU64Promise a b r ⌝ }
 {
     lower(Factors { a: a, b: b })
 }
 
 // a * b, divided by 2^64.
 pub fn upper_u64(a: u64, b: u64) -> u64
-    ensures { λ r. ⌜ r ≡ upperWord 64 a b ⌝ }
+    ensures { λ r. ⌜ UpperU64Promise a b r ⌝ }
 {
     upper(Factors { a: a, b: b })
 }

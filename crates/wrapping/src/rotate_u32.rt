@@ -1,10 +1,9 @@
 // Rotations of words of 32 bits by any amount, as the Rust's `rotate_left` and `rotate_right` have them.
-ghost use mathlib.Core.Path.{_≡_};
-ghost use Rattle.wrapping.specs.Rotate.{rotateLeft, rotateRight};
+ghost use Rattle.wrapping.specs.Promises.{RotateLeftU32Promise, RotateRightU32Promise};
 
 // x rotated left by k bits, k modulo 32.
 pub fn rotate_left_u32(x: u32, k: u32) -> u32
-    ensures { λ r. ⌜ r ≡ rotateLeft 32 x k ⌝ }
+    ensures { λ r. ⌜ RotateLeftU32Promise x k r ⌝ }
 {
     let up = k % 32;
     if up == 0 {
@@ -16,7 +15,7 @@ pub fn rotate_left_u32(x: u32, k: u32) -> u32
 
 // x rotated right by k bits, k modulo 32.
 pub fn rotate_right_u32(x: u32, k: u32) -> u32
-    ensures { λ r. ⌜ r ≡ rotateRight 32 x k ⌝ }
+    ensures { λ r. ⌜ RotateRightU32Promise x k r ⌝ }
 {
     let down = k % 32;
     if down == 0 {

@@ -1,6 +1,5 @@
 // A number of 128 bits as two words, where the Rust has a `u128`: sum and product modulo 2^128.
-ghost use mathlib.Core.Path.{_≡_};
-ghost use Rattle.wrapping.specs.Wide.{wideSum, wideProduct};
+ghost use Rattle.wrapping.specs.Promises.{WideWrappingAddPromise, WideWrappingMulPromise};
 use super::product::mul_u64;
 use super::product::upper_u64;
 
@@ -13,7 +12,7 @@ pub struct Wide {
 impl Wide {
     // The sum, modulo 2^128.
     pub fn wrapping_add(self, other: Wide) -> Wide
-        ensures { λ r. ⌜ r ≡ wideSum self other ⌝ }
+        ensures { λ r. ⌜ WideWrappingAddPromise self other r ⌝ }
     {
         let low = std::num::wrapping_add_u64(self.low, other.low);
         let high = std::num::wrapping_add_u64(self.high, other.high);
@@ -32,7 +31,7 @@ impl Wide {
 
     // The product, modulo 2^128.
     pub fn wrapping_mul(self, other: Wide) -> Wide
-        ensures { λ r. ⌜ r ≡ wideProduct self other ⌝ }
+        ensures { λ r. ⌜ WideWrappingMulPromise self other r ⌝ }
     {
         let left = mul_u64(self.high, other.low);
         let right = mul_u64(self.low, other.high);
