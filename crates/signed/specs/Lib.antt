@@ -5,3 +5,5 @@ pub mod GapLaws
 pub mod Steps
 pub mod Callers
 pub mod Examples
+pub mod Promises
+pub mod PromisesLaws

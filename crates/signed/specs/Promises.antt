@@ -1,0 +1,17 @@
+-- What each public call promises of its answer: the contracts of src/, by name.
+use mathlib.Core.Path.{_≡_}
+use Prim.Native.Nat.{ℕ}
+use lib.IntN.{ℤ}
+use Rattle.signed.specs.Signed.{gap, signedOf, wrappedSum}
+
+abbrev pub SignedU32Promise : ℕ → ℤ → Type 0
+SignedU32Promise w r = r ≡ signedOf 32 w
+
+abbrev pub SignedU64Promise : ℕ → ℤ → Type 0
+SignedU64Promise w r = r ≡ signedOf 64 w
+
+abbrev pub WrappingAddSignedPromise : ℤ → ℕ → ℤ → Type 0
+WrappingAddSignedPromise x w r = r ≡ wrappedSum 32 x w
+
+abbrev pub SpanOfPromise : ℤ → ℤ → ℕ → Type 0
+SpanOfPromise min max r = r ≡ gap min max
