@@ -33,3 +33,5 @@ pub mod DrawsLoop
 -- The bench examples.
 pub mod Table
 pub mod Bench
+pub mod Promises
+pub mod PromisesLaws

@@ -1,21 +1,18 @@
 // The arithmetic of a draw below r, for code over any source of words. Every function is total.
-ghost use mathlib.Core.Path.{_≡_};
-ghost use Prim.Native.Nat.{_*_};
-ghost use Rattle.words.specs.Draw.{good, quotient};
-ghost use Rattle.words.specs.Threshold.{threshold};
+ghost use Rattle.words.specs.Promises.{ProductPromise, ThresholdPromise, IsGoodPromise, QuotientPromise};
 
 pub mod refusal;
 
 // The whole product of a word and r.
 pub fn product(w: u32, r: u32) -> u64
-    ensures { λ p. ⌜ p ≡ w * r ⌝ }
+    ensures { λ p. ⌜ ProductPromise w r p ⌝ }
 {
     (w as u64) * (r as u64)
 }
 
 // 2^32 mod r, as the Rust works it out, without a number above 32 bits; and 0 where r is 0.
 pub fn threshold(r: u32) -> u32
-    ensures { λ t. ⌜ t ≡ threshold r ⌝ }
+    ensures { λ t. ⌜ ThresholdPromise r t ⌝ }
 {
     if r == 0 {
         return 0;
@@ -25,7 +22,7 @@ pub fn threshold(r: u32) -> u32
 
 // Whether a word is good for r: 2^32 mod r is worked out only where the remainder is below r. No word is good for 0.
 pub fn is_good(w: u32, r: u32) -> bool
-    ensures { λ b. ⌜ b ≡ good r w ⌝ }
+    ensures { λ b. ⌜ IsGoodPromise w r b ⌝ }
 {
     if r == 0 {
         return false;
@@ -41,7 +38,7 @@ pub fn is_good(w: u32, r: u32) -> bool
 
 // The quotient that a good word draws.
 pub fn quotient(w: u32, r: u32) -> u32
-    ensures { λ q. ⌜ q ≡ quotient r w ⌝ }
+    ensures { λ q. ⌜ QuotientPromise w r q ⌝ }
 {
     (product(w, r) / 4294967296) as u32
 }

@@ -1,0 +1,18 @@
+-- Each promise leaves one answer: two that both meet it are equal.
+-- Assumes nothing.
+use mathlib.Core.Bool.{Bool}
+use mathlib.Core.Path.{_≡_, sym, _∙_}
+use Prim.Native.Nat.{ℕ}
+use Rattle.words.specs.Promises.{IsGoodPromise, ProductPromise, QuotientPromise, ThresholdPromise}
+
+pub one-product : (w r : ℕ) {a b : ℕ} → ProductPromise w r a → ProductPromise w r b → a ≡ b
+one-product w r p q = p ∙ sym q
+
+pub one-threshold : (r : ℕ) {a b : ℕ} → ThresholdPromise r a → ThresholdPromise r b → a ≡ b
+one-threshold r p q = p ∙ sym q
+
+pub one-is-good : (w r : ℕ) {a b : Bool} → IsGoodPromise w r a → IsGoodPromise w r b → a ≡ b
+one-is-good w r p q = p ∙ sym q
+
+pub one-quotient : (w r : ℕ) {a b : ℕ} → QuotientPromise w r a → QuotientPromise w r b → a ≡ b
+one-quotient w r p q = p ∙ sym q
