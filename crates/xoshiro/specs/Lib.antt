@@ -5,3 +5,5 @@ pub mod Seed
 pub mod Jump
 pub mod SeedLaws
 pub mod Vectors
+pub mod Promises
+pub mod PromisesLaws

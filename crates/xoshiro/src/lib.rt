@@ -1,8 +1,7 @@
 // Blackman and Vigna's xoshiro256++ 1.0, as the Rust's xoshiro.rs has it: four words of state, seeded through SplitMix64.
 ghost use mathlib.Core.Path.{_≡_};
-ghost use Rattle.xoshiro.specs.Generator.{parts, result, stepped, drawn, drawnHigh};
-ghost use Rattle.xoshiro.specs.Jump.{jumped};
-ghost use Rattle.xoshiro.specs.Seed.{seeded, seededBytes};
+ghost use Rattle.xoshiro.specs.Generator.{result, stepped};
+ghost use Rattle.xoshiro.specs.Promises.{XoshiroFromPartsPromise, XoshiroFromU64SeedPromise, XoshiroFromSeedPromise, XoshiroFromSlicePromise, XoshiroNextU64Promise, XoshiroNextU32Promise, XoshiroJumpPromise};
 
 mod jump;
 mod seed;
@@ -32,28 +31,28 @@ pub struct Drawn32 {
 impl Xoshiro256PlusPlus {
     // The generator with these four words of state, all zeros included.
     pub fn from_parts(s0: u64, s1: u64, s2: u64, s3: u64) -> Xoshiro256PlusPlus
-        ensures { λ r. ⌜ r ≡ parts s0 s1 s2 s3 ⌝ }
+        ensures { λ r. ⌜ XoshiroFromPartsPromise s0 s1 s2 s3 r ⌝ }
     {
         Xoshiro256PlusPlus { s0, s1, s2, s3 }
     }
 
     // Four words of SplitMix64, from a seed number; 0 is replaced.
     pub fn from_u64_seed(seed: u64) -> Xoshiro256PlusPlus
-        ensures { λ r. ⌜ r ≡ seeded seed ⌝ }
+        ensures { λ r. ⌜ XoshiroFromU64SeedPromise seed r ⌝ }
     {
         seed::primed(seed::nonzero(seed))
     }
 
     // The same from 32 bytes: their four little-endian words, XORed, are the seed number.
     pub fn from_seed(seed: [u8; 32]) -> Xoshiro256PlusPlus
-        ensures { λ r. ⌜ r ≡ seededBytes seed ⌝ }
+        ensures { λ r. ⌜ XoshiroFromSeedPromise seed r ⌝ }
     {
         Xoshiro256PlusPlus::from_slice(&seed)
     }
 
     // The same from a list of 32 bytes; what a shorter one lacks counts as 0, and what a longer one has beyond is not looked at.
     pub fn from_slice(seed: &[u8]) -> Xoshiro256PlusPlus
-        ensures { λ r. ⌜ r ≡ seededBytes (now (seed .entry)) ⌝ }
+        ensures { λ r. ⌜ XoshiroFromSlicePromise (now (seed .entry)) r ⌝ }
     {
         Xoshiro256PlusPlus::from_u64_seed(seed::folded(seed))
     }
@@ -84,7 +83,7 @@ impl Xoshiro256PlusPlus {
     }
 
     pub fn next_u64(self) -> Drawn64
-        ensures { λ r. ⌜ r ≡ drawn self ⌝ }
+        ensures { λ r. ⌜ XoshiroNextU64Promise self r ⌝ }
     {
         let word = self.word();
         let next = self.step();
@@ -93,7 +92,7 @@ impl Xoshiro256PlusPlus {
 
     // The high half of the next 64-bit word.
     pub fn next_u32(self) -> Drawn32
-        ensures { λ r. ⌜ r ≡ drawnHigh self ⌝ }
+        ensures { λ r. ⌜ XoshiroNextU32Promise self r ⌝ }
     {
         let d = self.next_u64();
         let next = d.next;
@@ -105,7 +104,7 @@ impl Xoshiro256PlusPlus {
 
     // As many steps on as the authors' jump goes, which they say is 2^128.
     pub fn jump(self) -> Xoshiro256PlusPlus
-        ensures { λ r. ⌜ r ≡ jumped self ⌝ }
+        ensures { λ r. ⌜ XoshiroJumpPromise self r ⌝ }
     {
         jump::all_turns(self)
     }
