@@ -4,3 +4,7 @@ pub mod Pcg32
 pub mod Pcg64
 pub mod StreamLaws
 pub mod Vectors
+pub mod Pcg32Promises
+pub mod Pcg32PromisesLaws
+pub mod Pcg64Promises
+pub mod Pcg64PromisesLaws

@@ -1,6 +1,7 @@
 // PCG-XSH-RR-64/32: a state of 64 bits and an increment, words of 32 bits.
 ghost use mathlib.Core.Path.{_≡_};
-ghost use Rattle.pcg.specs.Pcg32.{parts, nextState, output, drawn, drawnTwice, seeded, defaultStream, seededBytes};
+ghost use Rattle.pcg.specs.Pcg32.{nextState, output};
+ghost use Rattle.pcg.specs.Pcg32Promises.{Pcg32FromPartsPromise, Pcg32FromSeedStreamPromise, Pcg32FromU64SeedPromise, Pcg32FromSeedPromise, Pcg32FromSlicePromise, Pcg32NextU32Promise, Pcg32NextU64Promise};
 
 const MULTIPLIER: u64 = 6_364_136_223_846_793_005;
 
@@ -45,14 +46,14 @@ fn word_of(state: u64) -> u32
 impl Pcg32 {
     // The generator with this state and the increment in use, an even one included.
     pub fn from_parts(state: u64, inc: u64) -> Pcg32
-        ensures { λ r. ⌜ r ≡ parts state inc ⌝ }
+        ensures { λ r. ⌜ Pcg32FromPartsPromise state inc r ⌝ }
     {
         Pcg32 { state, inc }
     }
 
     // State 0, one step, the seed added, one step; the increment is the stream's.
     pub fn from_seed_stream(seed: u64, stream: u64) -> Pcg32
-        ensures { λ r. ⌜ r ≡ seeded seed stream ⌝ }
+        ensures { λ r. ⌜ Pcg32FromSeedStreamPromise seed stream r ⌝ }
     {
         let inc = (stream << 1) + 1;
         let first = next_state(0, inc);
@@ -63,21 +64,21 @@ impl Pcg32 {
     }
 
     pub fn from_u64_seed(seed: u64) -> Pcg32
-        ensures { λ r. ⌜ r ≡ seeded seed defaultStream ⌝ }
+        ensures { λ r. ⌜ Pcg32FromU64SeedPromise seed r ⌝ }
     {
         Pcg32::from_seed_stream(seed, DEFAULT_STREAM)
     }
 
     // From 16 bytes: the seed and then the stream, whose low bit is set before it is shifted.
     pub fn from_seed(seed: [u8; 16]) -> Pcg32
-        ensures { λ r. ⌜ r ≡ seededBytes seed ⌝ }
+        ensures { λ r. ⌜ Pcg32FromSeedPromise seed r ⌝ }
     {
         Pcg32::from_slice(&seed)
     }
 
     // The same from a list of 16 bytes; what a shorter one lacks counts as 0, and what a longer one has beyond is not looked at.
     pub fn from_slice(seed: &[u8]) -> Pcg32
-        ensures { λ r. ⌜ r ≡ seededBytes (now (seed .entry)) ⌝ }
+        ensures { λ r. ⌜ Pcg32FromSlicePromise (now (seed .entry)) r ⌝ }
     {
         let state = wrapping::le_u64(seed, 0);
         let stream = wrapping::le_u64(seed, 8);
@@ -86,7 +87,7 @@ impl Pcg32 {
 
     // The next word. It is made of the old state.
     pub fn next_u32(self) -> Drawn32
-        ensures { λ r. ⌜ r ≡ drawn self ⌝ }
+        ensures { λ r. ⌜ Pcg32NextU32Promise self r ⌝ }
     {
         Drawn32 {
             word: word_of(self.state),
@@ -99,7 +100,7 @@ impl Pcg32 {
 
     // Two words, the low one first.
     pub fn next_u64(self) -> Drawn64
-        ensures { λ r. ⌜ r ≡ drawnTwice self ⌝ }
+        ensures { λ r. ⌜ Pcg32NextU64Promise self r ⌝ }
     {
         let low = self.next_u32();
         let between = low.next;

@@ -1,7 +1,7 @@
 // PCG-XSL-RR-128/64: a state and an increment of 128 bits each, words of 64 bits.
 ghost use mathlib.Core.Path.{_≡_};
-ghost use Rattle.wrapping.specs.Wide.{value};
-ghost use Rattle.pcg.specs.Pcg64.{parts, nextState, output, drawn, drawnHigh, incrementOf, seeded, defaultStream, seededBytes};
+ghost use Rattle.pcg.specs.Pcg64.{nextState, output, incrementOf};
+ghost use Rattle.pcg.specs.Pcg64Promises.{Pcg64FromPartsPromise, Pcg64FromSeedStreamPromise, Pcg64FromU128SeedPromise, Pcg64FromSeedPromise, Pcg64FromSlicePromise, Pcg64NextU64Promise, Pcg64NextU32Promise};
 use wrapping::Wide;
 
 const MULTIPLIER: Wide = Wide {
@@ -61,14 +61,14 @@ fn increment(stream: Wide) -> Wide
 impl Pcg64 {
     // The generator with this state and the increment in use, an even one included.
     pub fn from_parts(state: Wide, inc: Wide) -> Pcg64
-        ensures { λ r. ⌜ r ≡ parts state inc ⌝ }
+        ensures { λ r. ⌜ Pcg64FromPartsPromise state inc r ⌝ }
     {
         Pcg64 { state, inc }
     }
 
     // State 0, one step, the seed added, one step; the increment is the stream's.
     pub fn from_seed_stream(seed: Wide, stream: Wide) -> Pcg64
-        ensures { λ r. ⌜ r ≡ seeded (value seed) (value stream) ⌝ }
+        ensures { λ r. ⌜ Pcg64FromSeedStreamPromise seed stream r ⌝ }
     {
         let inc = increment(stream);
         let first = next_state(Wide { high: 0, low: 0 }, inc);
@@ -77,21 +77,21 @@ impl Pcg64 {
     }
 
     pub fn from_u128_seed(seed: Wide) -> Pcg64
-        ensures { λ r. ⌜ r ≡ seeded (value seed) defaultStream ⌝ }
+        ensures { λ r. ⌜ Pcg64FromU128SeedPromise seed r ⌝ }
     {
         Pcg64::from_seed_stream(seed, DEFAULT_STREAM)
     }
 
     // From 32 bytes: the seed and then the stream, whose low bit is set before it is shifted.
     pub fn from_seed(seed: [u8; 32]) -> Pcg64
-        ensures { λ r. ⌜ r ≡ seededBytes seed ⌝ }
+        ensures { λ r. ⌜ Pcg64FromSeedPromise seed r ⌝ }
     {
         Pcg64::from_slice(&seed)
     }
 
     // The same from a list of 32 bytes; what a shorter one lacks counts as 0, and what a longer one has beyond is not looked at.
     pub fn from_slice(seed: &[u8]) -> Pcg64
-        ensures { λ r. ⌜ r ≡ seededBytes (now (seed .entry)) ⌝ }
+        ensures { λ r. ⌜ Pcg64FromSlicePromise (now (seed .entry)) r ⌝ }
     {
         let state = Wide {
             high: wrapping::le_u64(seed, 8),
@@ -106,7 +106,7 @@ impl Pcg64 {
 
     // The next word. It is made of the old state.
     pub fn next_u64(self) -> Drawn64
-        ensures { λ r. ⌜ r ≡ drawn self ⌝ }
+        ensures { λ r. ⌜ Pcg64NextU64Promise self r ⌝ }
     {
         let old = self.state;
         let inc = self.inc;
@@ -119,7 +119,7 @@ impl Pcg64 {
 
     // The high half of the next word.
     pub fn next_u32(self) -> Drawn32
-        ensures { λ r. ⌜ r ≡ drawnHigh self ⌝ }
+        ensures { λ r. ⌜ Pcg64NextU32Promise self r ⌝ }
     {
         let d = self.next_u64();
         let next = d.next;
