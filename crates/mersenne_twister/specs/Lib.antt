@@ -7,3 +7,5 @@ pub mod DrawLaws
 pub mod SameWords
 pub mod Bounds
 pub mod Vectors
+pub mod Promises
+pub mod PromisesLaws

@@ -3,8 +3,7 @@ mod constants;
 mod table;
 mod word;
 
-ghost use mathlib.Core.Path.{_≡_};
-ghost use Rattle.mersenne_twister.specs.Table.{held, folded, storedPosition, seeded, twisted, drawn, drawn64};
+ghost use Rattle.mersenne_twister.specs.Promises.{TwisterFromU32SeedPromise, TwisterFromSeedPromise, TwisterSeedPromise, TwisterFromPartsPromise, TwisterRandPromise, TwisterNextU64Promise, TwisterTwistPromise, TwisterMtiPromise, TwisterSetMtiPromise};
 pub use constants::END;
 pub use table::Step;
 pub use table::Step64;
@@ -40,7 +39,7 @@ pub struct Drawn64 {
 impl MersenneTwister {
     // Seeded from a number.
     pub fn from_u32_seed(seed: u32) -> MersenneTwister
-        ensures { λ r. ⌜ r ≡ seeded seed ⌝ }
+        ensures { λ r. ⌜ TwisterFromU32SeedPromise seed r ⌝ }
     {
         let mut mt = [0u32; 624];
         let mti = seed_in(&mut mt, seed);
@@ -49,14 +48,14 @@ impl MersenneTwister {
 
     // Seeded from 32 bytes.
     pub fn from_seed(seed: [u8; 32]) -> MersenneTwister
-        ensures { λ r. ⌜ r ≡ seeded (folded seed) ⌝ }
+        ensures { λ r. ⌜ TwisterFromSeedPromise seed r ⌝ }
     {
         MersenneTwister::from_u32_seed(fold_seed(&seed))
     }
 
     // Seeded anew from a number, whatever the generator was.
     pub fn seed(mut self, seed: u32) -> MersenneTwister
-        ensures { λ r. ⌜ r ≡ seeded seed ⌝ }
+        ensures { λ r. ⌜ TwisterSeedPromise seed r ⌝ }
     {
         self.mti = seed_in(&mut self.mt, seed);
         self
@@ -64,14 +63,14 @@ impl MersenneTwister {
 
     // Set by hand. Any position is kept as it is given.
     pub fn from_parts(mt: [u32; 624], mti: u32) -> MersenneTwister
-        ensures { λ r. ⌜ r ≡ held mt mti ⌝ }
+        ensures { λ r. ⌜ TwisterFromPartsPromise mt mti r ⌝ }
     {
         MersenneTwister { mt, mti }
     }
 
     // The next word.
     pub fn rand(mut self) -> Drawn32
-        ensures { λ r. ⌜ r ≡ drawn self ⌝ }
+        ensures { λ r. ⌜ TwisterRandPromise self r ⌝ }
     {
         let mti = self.mti;
         let step = rand_in(&mut self.mt, mti);
@@ -84,7 +83,7 @@ impl MersenneTwister {
 
     // The next two words as one, the high word first.
     pub fn next_u64(mut self) -> Drawn64
-        ensures { λ r. ⌜ r ≡ drawn64 self ⌝ }
+        ensures { λ r. ⌜ TwisterNextU64Promise self r ⌝ }
     {
         let mti = self.mti;
         let step = next_u64_in(&mut self.mt, mti);
@@ -97,7 +96,7 @@ impl MersenneTwister {
 
     // The twist.
     pub fn twist(mut self) -> MersenneTwister
-        ensures { λ r. ⌜ r ≡ twisted self ⌝ }
+        ensures { λ r. ⌜ TwisterTwistPromise self r ⌝ }
     {
         self.mti = twist_in(&mut self.mt);
         self
@@ -105,14 +104,14 @@ impl MersenneTwister {
 
     // The position.
     pub fn mti(self) -> u32
-        ensures { λ r. ⌜ r ≡ self .mti ⌝ }
+        ensures { λ r. ⌜ TwisterMtiPromise self r ⌝ }
     {
         self.mti
     }
 
     // The position set, at most 624.
     pub fn set_mti(mut self, value: u32) -> MersenneTwister
-        ensures { λ r. ⌜ r ≡ held (self .mt) (storedPosition value) ⌝ }
+        ensures { λ r. ⌜ TwisterSetMtiPromise self value r ⌝ }
     {
         self.mti = stored_position(value);
         self

@@ -1,7 +1,8 @@
 // The generator over a table that the caller lends: seeding, twist and draws in place. No table is copied.
 ghost use mathlib.Core.Path.{_≡_};
 ghost use Prim.Native.Nat.{_<_};
-ghost use Rattle.mersenne_twister.specs.Table.{held, renewWith, renewed, folded, storedPosition, seededIn, twistedIn, drawnIn, drawn64In, stepped, stepped64};
+ghost use Rattle.mersenne_twister.specs.Table.{renewWith, renewed};
+ghost use Rattle.mersenne_twister.specs.Promises.{StoredPositionPromise, SeedInPromise, FoldSeedPromise, FromSeedInPromise, TwistInPromise, RandInPromise, NextU64InPromise};
 use super::constants::END;
 use super::constants::M;
 use super::constants::N;
@@ -24,14 +25,14 @@ pub struct Step64 {
 
 // The position that `set_mti` stores for the one that it is given.
 pub fn stored_position(value: u32) -> u32
-    ensures { λ r. ⌜ r ≡ storedPosition value ⌝ }
+    ensures { λ r. ⌜ StoredPositionPromise value r ⌝ }
 {
     if value < END { value } else { END }
 }
 
 // Seeds the table from a number; the answer is the position, at which the first draw twists.
 pub fn seed_in(mt: &mut [u32; 624], seed: u32) -> u32
-    ensures { λ r. ⌜ held (now (mt .exit)) r ≡ seededIn (now (mt .entry)) seed ⌝ }
+    ensures { λ r. ⌜ SeedInPromise (now (mt .entry)) seed r (now (mt .exit)) ⌝ }
 {
     let mut word = seed;
     let mut i: u32 = 0;
@@ -45,7 +46,7 @@ pub fn seed_in(mt: &mut [u32; 624], seed: u32) -> u32
 
 // The eight little-endian words of a seed of 32 bytes, XORed.
 pub fn fold_seed(seed: &[u8]) -> u32
-    ensures { λ r. ⌜ r ≡ folded (now (seed .entry)) ⌝ }
+    ensures { λ r. ⌜ FoldSeedPromise (now (seed .entry)) r ⌝ }
 {
     let mut word: u32 = 0;
     let mut k: usize = 0;
@@ -58,7 +59,7 @@ pub fn fold_seed(seed: &[u8]) -> u32
 
 // Seeds the table from 32 bytes; the answer is the position.
 pub fn from_seed_in(mt: &mut [u32; 624], seed: &[u8; 32]) -> u32
-    ensures { λ r. ⌜ held (now (mt .exit)) r ≡ seededIn (now (mt .entry)) (folded (now (seed .entry))) ⌝ }
+    ensures { λ r. ⌜ FromSeedInPromise (now (mt .entry)) (now (seed .entry)) r (now (mt .exit)) ⌝ }
 {
     seed_in(mt, fold_seed(seed))
 }
@@ -84,7 +85,7 @@ fn renew(mt: &mut [u32; 624])
 
 // The twist; the answer is the position.
 pub fn twist_in(mt: &mut [u32; 624]) -> u32
-    ensures { λ r. ⌜ held (now (mt .exit)) r ≡ twistedIn (now (mt .entry)) ⌝ }
+    ensures { λ r. ⌜ TwistInPromise (now (mt .entry)) r (now (mt .exit)) ⌝ }
 {
     renew(mt);
     0
@@ -92,7 +93,7 @@ pub fn twist_in(mt: &mut [u32; 624]) -> u32
 
 // The next word. At position 624 or above the table is twisted first.
 pub fn rand_in(mt: &mut [u32; 624], mti: u32) -> Step
-    ensures { λ r. ⌜ stepped r (now (mt .exit)) ≡ drawnIn (now (mt .entry)) mti ⌝ }
+    ensures { λ r. ⌜ RandInPromise (now (mt .entry)) mti r (now (mt .exit)) ⌝ }
 {
     let mut at = mti;
     if at >= END {
@@ -107,7 +108,7 @@ pub fn rand_in(mt: &mut [u32; 624], mti: u32) -> Step
 
 // The next two words as one, the high word first.
 pub fn next_u64_in(mt: &mut [u32; 624], mti: u32) -> Step64
-    ensures { λ r. ⌜ stepped64 r (now (mt .exit)) ≡ drawn64In (now (mt .entry)) mti ⌝ }
+    ensures { λ r. ⌜ NextU64InPromise (now (mt .entry)) mti r (now (mt .exit)) ⌝ }
 {
     let high = rand_in(mt, mti);
     let low = rand_in(mt, high.mti);

@@ -1,6 +1,7 @@
 // What is done to single words: the recurrence, the tempering and a step of the seeding.
 ghost use mathlib.Core.Path.{_≡_};
-ghost use Rattle.mersenne_twister.specs.Sequence.{timesA, follow, temper, seedStep};
+ghost use Rattle.mersenne_twister.specs.Promises.{TemperWordPromise};
+ghost use Rattle.mersenne_twister.specs.Sequence.{timesA, follow, seedStep};
 use super::constants::LOWER_MASK;
 use super::constants::MATRIX_A;
 use super::constants::MULTIPLIER;
@@ -25,7 +26,7 @@ pub(crate) fn follow_word(u: u32, l: u32, m: u32) -> u32
 
 // The word that is given out for the word `x` of the table.
 pub fn temper_word(x: u32) -> u32
-    ensures { λ r. ⌜ r ≡ temper x ⌝ }
+    ensures { λ r. ⌜ TemperWordPromise x r ⌝ }
 {
     let mut y = x;
     y ^= y >> 11;

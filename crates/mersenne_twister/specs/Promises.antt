@@ -1,0 +1,62 @@
+-- What each public call promises of its answer: the contracts of src/, by name.
+use mathlib.Core.List.{List}
+use mathlib.Core.Path.{_≡_}
+use Prim.Native.Nat.{ℕ}
+use Rattle.mersenne_twister.specs.Sequence.{temper}
+use Rattle.mersenne_twister.specs.Table.{drawn, drawn64, drawn64In, drawnIn, folded, held, seeded, seededIn, stepped, stepped64, storedPosition, twisted, twistedIn}
+use Rattle.mersenne_twister.specs.declared.Drawn32.{Drawn32}
+use Rattle.mersenne_twister.specs.declared.Drawn64.{Drawn64}
+use Rattle.mersenne_twister.specs.declared.MersenneTwister.{MersenneTwister}
+use Rattle.mersenne_twister.specs.declared.table.Step.{Step}
+use Rattle.mersenne_twister.specs.declared.table.Step64.{Step64}
+
+abbrev pub TwisterFromU32SeedPromise : ℕ → MersenneTwister → Type 0
+TwisterFromU32SeedPromise seed r = r ≡ seeded seed
+
+abbrev pub TwisterFromSeedPromise : List ℕ → MersenneTwister → Type 0
+TwisterFromSeedPromise seed r = r ≡ seeded (folded seed)
+
+abbrev pub TwisterSeedPromise : ℕ → MersenneTwister → Type 0
+TwisterSeedPromise seed r = r ≡ seeded seed
+
+abbrev pub TwisterFromPartsPromise : List ℕ → ℕ → MersenneTwister → Type 0
+TwisterFromPartsPromise mt mti r = r ≡ held mt mti
+
+abbrev pub TwisterRandPromise : MersenneTwister → Drawn32 → Type 0
+TwisterRandPromise self r = r ≡ drawn self
+
+abbrev pub TwisterNextU64Promise : MersenneTwister → Drawn64 → Type 0
+TwisterNextU64Promise self r = r ≡ drawn64 self
+
+abbrev pub TwisterTwistPromise : MersenneTwister → MersenneTwister → Type 0
+TwisterTwistPromise self r = r ≡ twisted self
+
+abbrev pub TwisterMtiPromise : MersenneTwister → ℕ → Type 0
+TwisterMtiPromise self r = r ≡ self .mti
+
+abbrev pub TwisterSetMtiPromise : MersenneTwister → ℕ → MersenneTwister → Type 0
+TwisterSetMtiPromise self value r = r ≡ held (self .mt) (storedPosition value)
+
+abbrev pub StoredPositionPromise : ℕ → ℕ → Type 0
+StoredPositionPromise value r = r ≡ storedPosition value
+
+abbrev pub SeedInPromise : List ℕ → ℕ → ℕ → List ℕ → Type 0
+SeedInPromise mt seed r mt′ = held mt′ r ≡ seededIn mt seed
+
+abbrev pub FoldSeedPromise : List ℕ → ℕ → Type 0
+FoldSeedPromise seed r = r ≡ folded seed
+
+abbrev pub FromSeedInPromise : List ℕ → List ℕ → ℕ → List ℕ → Type 0
+FromSeedInPromise mt seed r mt′ = held mt′ r ≡ seededIn mt (folded seed)
+
+abbrev pub TwistInPromise : List ℕ → ℕ → List ℕ → Type 0
+TwistInPromise mt r mt′ = held mt′ r ≡ twistedIn mt
+
+abbrev pub RandInPromise : List ℕ → ℕ → Step → List ℕ → Type 0
+RandInPromise mt mti r mt′ = stepped r mt′ ≡ drawnIn mt mti
+
+abbrev pub NextU64InPromise : List ℕ → ℕ → Step64 → List ℕ → Type 0
+NextU64InPromise mt mti r mt′ = stepped64 r mt′ ≡ drawn64In mt mti
+
+abbrev pub TemperWordPromise : ℕ → ℕ → Type 0
+TemperWordPromise x r = r ≡ temper x
