@@ -9,3 +9,5 @@ pub mod ChanceLaws
 pub mod Intervals
 pub mod IntervalLaws
 pub mod Bench
+pub mod Promises
+pub mod PromisesLaws

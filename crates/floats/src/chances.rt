@@ -1,6 +1,5 @@
 // A coin that falls true with chance p: whether a double is below p.
-ghost use mathlib.Core.Path.{_≡_};
-ghost use Rattle.floats.specs.Chances.{isChance, chanceRefusal, coinOf};
+ghost use Rattle.floats.specs.Promises.{IsChancePromise, ChanceRefusalPromise, ChancePromise};
 use super::units::double_of;
 use words::refusal;
 
@@ -13,21 +12,21 @@ pub struct Coin {
 
 // Whether p is from 0 to 1. -0.0 is, and a NaN is not.
 pub fn is_chance(p: f64) -> bool
-    ensures { λ r. ⌜ r ≡ isChance p ⌝ }
+    ensures { λ r. ⌜ IsChancePromise p r ⌝ }
 {
     if p >= 0.0 { p <= 1.0 } else { false }
 }
 
 // What a caller asks before it draws the word: 0 where p is a chance.
 pub fn chance_refusal(p: f64) -> u32
-    ensures { λ r. ⌜ r ≡ chanceRefusal p ⌝ }
+    ensures { λ r. ⌜ ChanceRefusalPromise p r ⌝ }
 {
     if is_chance(p) { 0 } else { refusal::CHANCE }
 }
 
 // The coin that a word gives, also at p = 0 and p = 1.
 pub fn chance(p: f64, word: u64) -> Coin
-    ensures { λ r. ⌜ r ≡ coinOf p word ⌝ }
+    ensures { λ r. ⌜ ChancePromise p word r ⌝ }
 {
     if is_chance(p) {
         Coin {

@@ -1,7 +1,7 @@
 // A number of an interval: low + (high - low) * double, each operation rounded once.
 ghost use mathlib.Core.Path.{_≡_};
 ghost use lib.Ieee.Scale.{finite};
-ghost use Rattle.floats.specs.Intervals.{endsAreFinite, isOutOfOrder, intervalRefusal, numberIn, uniformOf};
+ghost use Rattle.floats.specs.Promises.{EndsAreFinitePromise, IsOutOfOrderPromise, IntervalRefusalPromise, NumberInPromise, UniformOfPromise};
 use super::units::double_of;
 use words::refusal;
 
@@ -27,7 +27,7 @@ fn is_finite(x: f64) -> bool
 }
 
 pub fn ends_are_finite(i: Interval) -> bool
-    ensures { λ r. ⌜ r ≡ endsAreFinite i ⌝ }
+    ensures { λ r. ⌜ EndsAreFinitePromise i r ⌝ }
 {
     if is_finite(i.low) {
         is_finite(i.high)
@@ -38,14 +38,14 @@ pub fn ends_are_finite(i: Interval) -> bool
 
 // -0.0 and 0.0 are level, so an interval between them is out of order.
 pub fn is_out_of_order(i: Interval) -> bool
-    ensures { λ r. ⌜ r ≡ isOutOfOrder i ⌝ }
+    ensures { λ r. ⌜ IsOutOfOrderPromise i r ⌝ }
 {
     i.low >= i.high
 }
 
 // What a caller asks before it draws the word: 0 where the interval is taken. The first fault that there is gives the number.
 pub fn interval_refusal(i: Interval) -> u32
-    ensures { λ r. ⌜ r ≡ intervalRefusal i ⌝ }
+    ensures { λ r. ⌜ IntervalRefusalPromise i r ⌝ }
 {
     if !ends_are_finite(i) {
         return refusal::NOT_FINITE;
@@ -62,7 +62,7 @@ pub fn interval_refusal(i: Interval) -> u32
 
 // The number that a word gives, for any two ends.
 pub fn number_in(i: Interval, word: u64) -> f64
-    ensures { λ r. ⌜ r ≡ numberIn i word ⌝ }
+    ensures { λ r. ⌜ NumberInPromise i word r ⌝ }
 {
     let low = i.low;
     let high = i.high;
@@ -72,7 +72,7 @@ pub fn number_in(i: Interval, word: u64) -> f64
 
 // The whole answer: the number where the interval is taken, and the refusal's number where it is not.
 pub fn uniform_of(i: Interval, word: u64) -> Uniform
-    ensures { λ r. ⌜ r ≡ uniformOf i word ⌝ }
+    ensures { λ r. ⌜ UniformOfPromise i word r ⌝ }
 {
     let refused = interval_refusal(i);
     if refused == 0 {
