@@ -2,7 +2,10 @@
 pub mod Generator
 pub mod GeneratorLaws
 pub mod Lent
+pub mod LentLaws
 pub mod Ready
 pub mod ReadyLaws
 pub mod Words
 pub mod WordsLaws
+pub mod Promises
+pub mod PromisesLaws

@@ -1,6 +1,5 @@
 // Words by value: of 32 bits, of 64, and 32 words XORed. Each call hands back the next generator.
-ghost use mathlib.Core.Path.{_≡_};
-ghost use Rattle.random.specs.Words.{engineIn, joinedWith, randOf, u64Of, i64Of, pseudoOf};
+ghost use Rattle.random.specs.Promises.{EngineOfPromise, WithTablePromise, RandPromise, U64Promise, I64Promise, PseudoPromise};
 use crate::backend::Random;
 use crate::engine;
 use crate::engine::Engine;
@@ -26,7 +25,7 @@ pub struct Signed64 {
 
 // All of a generator but its table.
 pub fn engine_of(g: Random) -> Engine
-    ensures { λ r. ⌜ r ≡ engineIn g ⌝ }
+    ensures { λ r. ⌜ EngineOfPromise g r ⌝ }
 {
     let backend = g.backend;
     Engine {
@@ -37,7 +36,7 @@ pub fn engine_of(g: Random) -> Engine
 
 // An engine and a table, joined to a generator.
 pub fn with_table(e: Engine, mt: [u32; 624]) -> Random
-    ensures { λ r. ⌜ r ≡ joinedWith e mt ⌝ }
+    ensures { λ r. ⌜ WithTablePromise e mt r ⌝ }
 {
     let backend = e.backend;
     let twister = MersenneTwister { mt, mti: e.mti };
@@ -46,7 +45,7 @@ pub fn with_table(e: Engine, mt: [u32; 624]) -> Random
 
 // The next word.
 pub fn rand(g: Random) -> Word32
-    ensures { λ r. ⌜ r ≡ randOf g ⌝ }
+    ensures { λ r. ⌜ RandPromise g r ⌝ }
 {
     let mut moved = g;
     let d = engine::next_u32(engine_of(g), &mut moved.twister.mt);
@@ -58,7 +57,7 @@ pub fn rand(g: Random) -> Word32
 
 // The next 64-bit word, by the kind's own order of halves.
 pub fn u64(g: Random) -> Word64
-    ensures { λ r. ⌜ r ≡ u64Of g ⌝ }
+    ensures { λ r. ⌜ U64Promise g r ⌝ }
 {
     let mut moved = g;
     let d = engine::next_u64(engine_of(g), &mut moved.twister.mt);
@@ -70,7 +69,7 @@ pub fn u64(g: Random) -> Word64
 
 // The next 64-bit word, read as signed.
 pub fn i64(g: Random) -> Signed64
-    ensures { λ r. ⌜ r ≡ i64Of g ⌝ }
+    ensures { λ r. ⌜ I64Promise g r ⌝ }
 {
     let d = u64(g);
     let next = d.next;
@@ -80,7 +79,7 @@ pub fn i64(g: Random) -> Signed64
 
 // The next 32 words, XORed.
 pub fn pseudo(g: Random) -> Word32
-    ensures { λ r. ⌜ r ≡ pseudoOf g ⌝ }
+    ensures { λ r. ⌜ PseudoPromise g r ⌝ }
 {
     let mut moved = g;
     let d = engine::pseudo_in(engine_of(g), &mut moved.twister.mt);

@@ -1,7 +1,7 @@
 // The lent layer: a generator's small words by value, and the twister's table lent by the caller. No table is copied.
 ghost use mathlib.Core.Path.{_≡_};
-ghost use Rattle.random.specs.Generator.{drawn32, drawn64, drawnOwn, drawnXor, widthOf};
-ghost use Rattle.random.specs.Lent.{lent, given, given64, engineWith, answerOf, answer64Of};
+ghost use Rattle.random.specs.Lent.{answerOf, answer64Of};
+ghost use Rattle.random.specs.Promises.{EngineWithPromise, NextU32Promise, NextU64Promise, WidthPromise, NextOwnPromise, PseudoInPromise};
 use crate::backend::Backend;
 use crate::ready::made_ready;
 use crate::ready::next_ready;
@@ -14,7 +14,7 @@ pub struct Engine {
 
 // An engine of a backend and a position.
 pub fn engine_with(backend: Backend, mti: u32) -> Engine
-    ensures { λ r. ⌜ r ≡ engineWith backend mti ⌝ }
+    ensures { λ r. ⌜ EngineWithPromise backend mti r ⌝ }
 {
     Engine { backend, mti }
 }
@@ -52,7 +52,7 @@ fn answer64(word: u64, backend: Backend, mti: u32) -> EngineWord64
 
 // The next word of 32 bits, which is what `rand` gives.
 pub fn next_u32(e: Engine, mt: &mut [u32; 624]) -> EngineWord
-    ensures { λ r. ⌜ given r (now (mt .exit)) ≡ drawn32 (lent e (now (mt .entry))) ⌝ }
+    ensures { λ r. ⌜ NextU32Promise e (now (mt .entry)) r (now (mt .exit)) ⌝ }
 {
     let ready = made_ready(e, mt);
     next_ready(ready, mt)
@@ -60,7 +60,7 @@ pub fn next_u32(e: Engine, mt: &mut [u32; 624]) -> EngineWord
 
 // The next word of 64 bits, by the kind's own order of halves.
 pub fn next_u64(e: Engine, mt: &mut [u32; 624]) -> EngineWord64
-    ensures { λ r. ⌜ given64 r (now (mt .exit)) ≡ drawn64 (lent e (now (mt .entry))) ⌝ }
+    ensures { λ r. ⌜ NextU64Promise e (now (mt .entry)) r (now (mt .exit)) ⌝ }
 {
     let mti = e.mti;
     let backend = e.backend;
@@ -89,7 +89,7 @@ pub fn next_u64(e: Engine, mt: &mut [u32; 624]) -> EngineWord64
 
 // How many bytes the kind's own word has.
 pub fn width(backend: Backend) -> usize
-    ensures { λ r. ⌜ r ≡ widthOf backend ⌝ }
+    ensures { λ r. ⌜ WidthPromise backend r ⌝ }
 {
     match backend {
         Backend::Xoshiro256PlusPlus(_) => 8,
@@ -101,7 +101,7 @@ pub fn width(backend: Backend) -> usize
 
 // The next word of the kind's own width: one step of its engine.
 pub fn next_own(e: Engine, mt: &mut [u32; 624]) -> EngineWord64
-    ensures { λ r. ⌜ given64 r (now (mt .exit)) ≡ drawnOwn (lent e (now (mt .entry))) ⌝ }
+    ensures { λ r. ⌜ NextOwnPromise e (now (mt .entry)) r (now (mt .exit)) ⌝ }
 {
     let backend = e.backend;
     if width(backend) == 8 {
@@ -117,7 +117,7 @@ pub fn next_own(e: Engine, mt: &mut [u32; 624]) -> EngineWord64
 
 // The next 32 words, XORed.
 pub fn pseudo_in(e: Engine, mt: &mut [u32; 624]) -> EngineWord
-    ensures { λ r. ⌜ given r (now (mt .exit)) ≡ drawnXor 32 (lent e (now (mt .entry))) ⌝ }
+    ensures { λ r. ⌜ PseudoInPromise e (now (mt .entry)) r (now (mt .exit)) ⌝ }
 {
     let mut next = e;
     let mut word: u32 = 0;

@@ -1,8 +1,9 @@
 // A word that is ready: one for which no table is renewed. The twister renews its table once in 624 words, so nearly every word is; and one that
 // is ready is drawn without writing to the table.
 ghost use mathlib.Core.Path.{_≡_};
-ghost use Rattle.random.specs.Lent.{lent, given};
-ghost use Rattle.random.specs.Ready.{madeReady, drawnReady};
+ghost use Rattle.random.specs.Lent.{lent};
+ghost use Rattle.random.specs.Promises.{NextReadyPromise};
+ghost use Rattle.random.specs.Ready.{madeReady};
 use crate::backend::Backend;
 use crate::engine::Engine;
 use crate::engine::EngineWord;
@@ -32,7 +33,7 @@ pub(crate) fn made_ready(e: Engine, mt: &mut [u32; 624]) -> Engine
 
 // The next word where it is ready. Otherwise the word 0, and the generator as it came.
 pub fn next_ready(e: Engine, mt: &[u32; 624]) -> EngineWord
-    ensures { λ r. ⌜ given r (now (mt .entry)) ≡ drawnReady (lent e (now (mt .entry))) ⌝ }
+    ensures { λ r. ⌜ NextReadyPromise e (now (mt .entry)) r ⌝ }
 {
     let mti = e.mti;
     let backend = e.backend;
