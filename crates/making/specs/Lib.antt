@@ -1,3 +1,5 @@
 -- What making and seeding a generator hand back.
 pub mod Make
 pub mod Seeding
+pub mod Promises
+pub mod PromisesLaws

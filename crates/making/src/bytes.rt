@@ -1,6 +1,7 @@
 // Making a generator from a kind number and a byte seed: the one place that refuses with 10 and 11.
 ghost use mathlib.Core.Path.{_≡_};
-ghost use Rattle.making.specs.Make.{seedLengthOf, ofKind, refusedMaking, madeBytes};
+ghost use Rattle.making.specs.Make.{ofKind, refusedMaking};
+ghost use Rattle.making.specs.Promises.{SeedLengthPromise, MakePromise};
 use crate::own_calls::from_pcg32;
 use crate::own_calls::from_pcg64;
 use crate::own_calls::from_xoshiro;
@@ -19,7 +20,7 @@ pub struct Made {
 
 // How many bytes a kind's seed has.
 pub fn seed_length(kind: u32) -> usize
-    ensures { λ r. ⌜ r ≡ seedLengthOf kind ⌝ }
+    ensures { λ r. ⌜ SeedLengthPromise kind r ⌝ }
 {
     if kind == 2 { 16 } else { 32 }
 }
@@ -42,7 +43,7 @@ fn of_kind(kind: u32, seed: &[u8]) -> Random
 
 // A kind above 3 is refused with 10, and then a seed not of the kind's length with 11.
 pub fn make(kind: u32, seed: &[u8]) -> Made
-    ensures { λ r. ⌜ r ≡ madeBytes kind (now (seed .entry)) ⌝ }
+    ensures { λ r. ⌜ MakePromise kind (now (seed .entry)) r ⌝ }
 {
     if kind > 3 {
         return refused_making(refusal::KIND);

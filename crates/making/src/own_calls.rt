@@ -1,12 +1,8 @@
 // Making a generator by its kind's own calls, which refuse nothing: from parts set by hand, from a seed number, from a seed and a stream.
 // What a kind does not use is zeros.
 ghost use mathlib.Core.Path.{_≡_};
-ghost use Rattle.wrapping.specs.Wide.{value};
-ghost use Rattle.making.specs.Make.{zeroTwister, ofXoshiro, ofTwister, ofPcg32, ofPcg64, zeroGenerator};
-ghost use Rattle.mersenne_twister.specs.Table as twister;
-ghost use Rattle.pcg.specs.Pcg32 as pcg32;
-ghost use Rattle.pcg.specs.Pcg64 as pcg64;
-ghost use Rattle.xoshiro.specs.Seed as xoshiro;
+ghost use Rattle.making.specs.Make.{zeroTwister};
+ghost use Rattle.making.specs.Promises.{FromXoshiroPromise, FromMersenneTwisterPromise, FromPcg32Promise, FromPcg64Promise, ZerosPromise, FromU64SeedPromise, NewMersenneTwisterWithSeedPromise, NewPcg32WithSeedPromise, NewPcg64WithSeedPromise, NewPcg32WithStreamPromise, NewPcg64WithStreamPromise};
 use mersenne_twister::MersenneTwister;
 use pcg::Pcg32;
 use pcg::Pcg64;
@@ -18,13 +14,13 @@ use xoshiro::Xoshiro256PlusPlus;
 // ---- from parts set by hand, each kind's own
 
 pub fn from_xoshiro(x: Xoshiro256PlusPlus) -> Random
-    ensures { λ r. ⌜ r ≡ ofXoshiro x ⌝ }
+    ensures { λ r. ⌜ FromXoshiroPromise x r ⌝ }
 {
     beside_zeros(Backend::Xoshiro256PlusPlus(x))
 }
 
 pub fn from_mersenne_twister(twister: MersenneTwister) -> Random
-    ensures { λ r. ⌜ r ≡ ofTwister twister ⌝ }
+    ensures { λ r. ⌜ FromMersenneTwisterPromise twister r ⌝ }
 {
     Random {
         backend: Backend::MersenneTwister,
@@ -33,13 +29,13 @@ pub fn from_mersenne_twister(twister: MersenneTwister) -> Random
 }
 
 pub fn from_pcg32(p: Pcg32) -> Random
-    ensures { λ r. ⌜ r ≡ ofPcg32 p ⌝ }
+    ensures { λ r. ⌜ FromPcg32Promise p r ⌝ }
 {
     beside_zeros(Backend::Pcg32(p))
 }
 
 pub fn from_pcg64(p: Pcg64) -> Random
-    ensures { λ r. ⌜ r ≡ ofPcg64 p ⌝ }
+    ensures { λ r. ⌜ FromPcg64Promise p r ⌝ }
 {
     beside_zeros(Backend::Pcg64(p))
 }
@@ -57,7 +53,7 @@ fn beside_zeros(backend: Backend) -> Random
 
 // Kind 0 with four zero words: what a refused making hands out.
 pub fn zeros() -> Random
-    ensures { λ r. ⌜ r ≡ zeroGenerator ⌝ }
+    ensures { λ r. ⌜ ZerosPromise r ⌝ }
 {
     from_xoshiro(Xoshiro256PlusPlus::from_parts(0, 0, 0, 0))
 }
@@ -65,25 +61,25 @@ pub fn zeros() -> Random
 // ---- from a seed number
 
 pub fn from_u64_seed(seed: u64) -> Random
-    ensures { λ r. ⌜ r ≡ ofXoshiro (xoshiro.seeded seed) ⌝ }
+    ensures { λ r. ⌜ FromU64SeedPromise seed r ⌝ }
 {
     from_xoshiro(Xoshiro256PlusPlus::from_u64_seed(seed))
 }
 
 pub fn new_mersenne_twister_with_seed(seed: u32) -> Random
-    ensures { λ r. ⌜ r ≡ ofTwister (twister.seeded seed) ⌝ }
+    ensures { λ r. ⌜ NewMersenneTwisterWithSeedPromise seed r ⌝ }
 {
     from_mersenne_twister(MersenneTwister::from_u32_seed(seed))
 }
 
 pub fn new_pcg32_with_seed(seed: u64) -> Random
-    ensures { λ r. ⌜ r ≡ ofPcg32 (pcg32.seeded seed pcg32.defaultStream) ⌝ }
+    ensures { λ r. ⌜ NewPcg32WithSeedPromise seed r ⌝ }
 {
     from_pcg32(Pcg32::from_u64_seed(seed))
 }
 
 pub fn new_pcg64_with_seed(seed: Wide) -> Random
-    ensures { λ r. ⌜ r ≡ ofPcg64 (pcg64.seeded (value seed) pcg64.defaultStream) ⌝ }
+    ensures { λ r. ⌜ NewPcg64WithSeedPromise seed r ⌝ }
 {
     from_pcg64(Pcg64::from_u128_seed(seed))
 }
@@ -91,13 +87,13 @@ pub fn new_pcg64_with_seed(seed: Wide) -> Random
 // ---- from a seed and a stream
 
 pub fn new_pcg32_with_stream(seed: u64, stream: u64) -> Random
-    ensures { λ r. ⌜ r ≡ ofPcg32 (pcg32.seeded seed stream) ⌝ }
+    ensures { λ r. ⌜ NewPcg32WithStreamPromise seed stream r ⌝ }
 {
     from_pcg32(Pcg32::from_seed_stream(seed, stream))
 }
 
 pub fn new_pcg64_with_stream(seed: Wide, stream: Wide) -> Random
-    ensures { λ r. ⌜ r ≡ ofPcg64 (pcg64.seeded (value seed) (value stream)) ⌝ }
+    ensures { λ r. ⌜ NewPcg64WithStreamPromise seed stream r ⌝ }
 {
     from_pcg64(Pcg64::from_seed_stream(seed, stream))
 }

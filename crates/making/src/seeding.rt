@@ -1,7 +1,5 @@
 // `seed`: the generator's kind is kept and its state set anew, over a lent table and by value.
-ghost use mathlib.Core.Path.{_≡_};
-ghost use Rattle.random.specs.Lent.{lent};
-ghost use Rattle.making.specs.Seeding.{seededIn, seededTo};
+ghost use Rattle.making.specs.Promises.{SeedInPromise, SeedPromise};
 use pcg::Pcg32;
 use pcg::Pcg64;
 use random::Backend;
@@ -15,7 +13,7 @@ use xoshiro::Xoshiro256PlusPlus;
 
 // The kind is kept; the 32-bit seed is widened, and the stream is the default one.
 pub fn seed_in(e: Engine, mt: &mut [u32; 624], seed: u32) -> Engine
-    ensures { λ r. ⌜ lent r (now (mt .exit)) ≡ seededIn (lent e (now (mt .entry))) seed ⌝ }
+    ensures { λ r. ⌜ SeedInPromise e (now (mt .entry)) seed r (now (mt .exit)) ⌝ }
 {
     let mti = e.mti;
     let backend = e.backend;
@@ -42,7 +40,7 @@ pub fn seed_in(e: Engine, mt: &mut [u32; 624], seed: u32) -> Engine
 
 // The same by value.
 pub fn seed(g: Random, seed: u32) -> Random
-    ensures { λ r. ⌜ r ≡ seededTo g seed ⌝ }
+    ensures { λ r. ⌜ SeedPromise g seed r ⌝ }
 {
     let mut moved = g;
     let e = seed_in(engine_of(g), &mut moved.twister.mt, seed);
