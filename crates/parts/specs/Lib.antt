@@ -6,3 +6,5 @@ pub mod OwnParts
 pub mod OwnPartsLaws
 pub mod Splitting
 pub mod SplittingLaws
+pub mod Promises
+pub mod PromisesLaws

@@ -1,9 +1,7 @@
 // Equality of generators: by kind and that kind's own parts. What a kind does not use is not looked at.
 ghost use mathlib.Core.Path.{_≡_};
-ghost use Rattle.random.specs.Generator.{genOf};
-ghost use Rattle.random.specs.Lent.{lent};
 ghost use Rattle.parts.specs.Decides.{Decides};
-ghost use Rattle.parts.specs.OwnParts.{ownParts};
+ghost use Rattle.parts.specs.Promises.{SameWordsPromise, SameInPromise, SamePromise};
 use crate::position::mti_in;
 use crate::read_out::Small;
 use crate::read_out::kind;
@@ -14,7 +12,7 @@ use random::engine_of;
 
 // Whether two lists hold the same words.
 pub fn same_words(a: &[u32], b: &[u32]) -> bool
-    ensures { λ r. ⌜ Decides r (now (a .entry) ≡ now (b .entry)) ⌝ }
+    ensures { λ r. ⌜ SameWordsPromise (now (a .entry)) (now (b .entry)) r ⌝ }
 {
     let count = a.len();
     let other = b.len();
@@ -51,7 +49,7 @@ fn same_small(x: Small, y: Small) -> bool
 
 // Whether the generators of two engines and their tables are equal.
 pub fn same_in(a: Engine, mt: &[u32; 624], b: Engine, other: &[u32; 624]) -> bool
-    ensures { λ r. ⌜ Decides r (ownParts (lent a (now (mt .entry))) ≡ ownParts (lent b (now (other .entry)))) ⌝ }
+    ensures { λ r. ⌜ SameInPromise a (now (mt .entry)) b (now (other .entry)) r ⌝ }
 {
     let first = a.backend;
     let second = b.backend;
@@ -76,7 +74,7 @@ pub fn same_in(a: Engine, mt: &[u32; 624], b: Engine, other: &[u32; 624]) -> boo
 
 // Whether two generators are equal.
 pub fn same(a: Random, b: Random) -> bool
-    ensures { λ r. ⌜ Decides r (ownParts (genOf a) ≡ ownParts (genOf b)) ⌝ }
+    ensures { λ r. ⌜ SamePromise a b r ⌝ }
 {
     same_in(engine_of(a), &a.twister.mt, engine_of(b), &b.twister.mt)
 }

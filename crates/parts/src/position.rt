@@ -1,7 +1,5 @@
 // The twister's position and twist, over a lent table and by value. On the other kinds they give 0, nothing and nothing.
-ghost use mathlib.Core.Path.{_≡_};
-ghost use Rattle.random.specs.Lent.{lent};
-ghost use Rattle.parts.specs.Position.{positionOf, storedIn, twistedIn, storedAt, twisted};
+ghost use Rattle.parts.specs.Promises.{MtiInPromise, SetMtiInPromise, TwistInPromise, MtiPromise, SetMtiPromise, TwistPromise};
 use random::Backend;
 use random::Engine;
 use random::Random;
@@ -11,7 +9,7 @@ use random::with_table;
 
 // The twister's position; 0 for the other kinds.
 pub fn mti_in(e: Engine) -> u32
-    ensures { λ r. ⌜ r ≡ positionOf (e .backend) (e .mti) ⌝ }
+    ensures { λ r. ⌜ MtiInPromise e r ⌝ }
 {
     let backend = e.backend;
     match backend {
@@ -24,7 +22,7 @@ pub fn mti_in(e: Engine) -> u32
 
 // The twister's position set, at most 624; nothing for the other kinds.
 pub fn set_mti_in(e: Engine, value: u32) -> Engine
-    ensures { λ r. ⌜ r ≡ storedIn e value ⌝ }
+    ensures { λ r. ⌜ SetMtiInPromise e value r ⌝ }
 {
     let backend = e.backend;
     match backend {
@@ -40,7 +38,7 @@ pub fn set_mti_in(e: Engine, value: u32) -> Engine
 
 // The twist; nothing for the other kinds.
 pub fn twist_in(e: Engine, mt: &mut [u32; 624]) -> Engine
-    ensures { λ r. ⌜ lent r (now (mt .exit)) ≡ twistedIn (lent e (now (mt .entry))) ⌝ }
+    ensures { λ r. ⌜ TwistInPromise e (now (mt .entry)) r (now (mt .exit)) ⌝ }
 {
     let backend = e.backend;
     match backend {
@@ -55,13 +53,13 @@ pub fn twist_in(e: Engine, mt: &mut [u32; 624]) -> Engine
 }
 
 pub fn mti(g: Random) -> u32
-    ensures { λ r. ⌜ r ≡ positionOf (g .backend) (g .twister .mti) ⌝ }
+    ensures { λ r. ⌜ MtiPromise g r ⌝ }
 {
     mti_in(engine_of(g))
 }
 
 pub fn set_mti(g: Random, value: u32) -> Random
-    ensures { λ r. ⌜ r ≡ storedAt g value ⌝ }
+    ensures { λ r. ⌜ SetMtiPromise g value r ⌝ }
 {
     let e = set_mti_in(engine_of(g), value);
     let mt = g.twister.mt;
@@ -69,7 +67,7 @@ pub fn set_mti(g: Random, value: u32) -> Random
 }
 
 pub fn twist(g: Random) -> Random
-    ensures { λ r. ⌜ r ≡ twisted g ⌝ }
+    ensures { λ r. ⌜ TwistPromise g r ⌝ }
 {
     let mut moved = g;
     let e = twist_in(engine_of(g), &mut moved.twister.mt);

@@ -1,6 +1,5 @@
 // A generator's kind and its small words, read out. The twister's table and position stand beside them.
-ghost use mathlib.Core.Path.{_≡_};
-ghost use Rattle.parts.specs.Kind.{kindOf, smallWords};
+ghost use Rattle.parts.specs.Promises.{KindPromise, SmallWordsPromise};
 use random::Backend;
 
 // The small words of a kind: xoshiro's state; Pcg32's state and increment; Pcg64's, high word first. The rest are zeros.
@@ -14,7 +13,7 @@ pub struct Small {
 
 // The kind's number, 0 to 3.
 pub fn kind(backend: Backend) -> u32
-    ensures { λ r. ⌜ r ≡ kindOf backend ⌝ }
+    ensures { λ r. ⌜ KindPromise backend r ⌝ }
 {
     match backend {
         Backend::Xoshiro256PlusPlus(_) => 0,
@@ -25,7 +24,7 @@ pub fn kind(backend: Backend) -> u32
 }
 
 pub fn small_words(backend: Backend) -> Small
-    ensures { λ r. ⌜ r ≡ smallWords backend ⌝ }
+    ensures { λ r. ⌜ SmallWordsPromise backend r ⌝ }
 {
     match backend {
         Backend::Xoshiro256PlusPlus(x) => Small {

@@ -1,6 +1,7 @@
 // `split`: two generators of one of kind 0, over a lent table and by value.
 ghost use mathlib.Core.Path.{_≡_};
-ghost use Rattle.parts.specs.Splitting.{refusedSplit, engineSplit, splitOf};
+ghost use Rattle.parts.specs.Splitting.{refusedSplit};
+ghost use Rattle.parts.specs.Promises.{SplitInPromise, SplitPromise};
 use random::Backend;
 use random::Engine;
 use random::Random;
@@ -18,7 +19,7 @@ pub struct EngineSplit {
 
 // Kind 0: the child has the old state, and the parent jumps. The other kinds are refused with 9, with the child of four zero words.
 pub fn split_in(e: Engine) -> EngineSplit
-    ensures { λ r. ⌜ r ≡ engineSplit e ⌝ }
+    ensures { λ r. ⌜ SplitInPromise e r ⌝ }
 {
     let mti = e.mti;
     let backend = e.backend;
@@ -57,7 +58,7 @@ pub struct SplitAnswer {
 }
 
 pub fn split(g: Random) -> SplitAnswer
-    ensures { λ r. ⌜ r ≡ splitOf g ⌝ }
+    ensures { λ r. ⌜ SplitPromise g r ⌝ }
 {
     let s = split_in(engine_of(g));
     if s.refusal == refusal::ANSWERED {
