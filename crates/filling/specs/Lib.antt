@@ -6,3 +6,5 @@ pub mod FillLoop
 pub mod FillKinds
 pub mod Poke
 pub mod PokeLaws
+pub mod Promises
+pub mod PromisesLaws

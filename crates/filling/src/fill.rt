@@ -4,11 +4,10 @@ ghost use mathlib.Core.Path.{_≡_};
 ghost use Prim.Native.Nat.{_+_, _≤_};
 ghost use lib.ListN.{length};
 ghost use Rattle.mersenne_twister.specs.Table.{held};
-ghost use Rattle.random.specs.Generator.{genOf};
 ghost use Rattle.random.specs.Lent.{lent};
-ghost use Rattle.filling.specs.Fill.{filledBytes, fillNext, FilledFrom};
 ghost use Rattle.filling.specs.FillKinds.{XoshiroWords, TwisterWords, Pcg32Words, Pcg64Words, WholeOwn};
 ghost use Rattle.filling.specs.Poke.{poke};
+ghost use Rattle.filling.specs.Promises.{FillBytesInPromise, FillBytesPromise};
 use pcg::Pcg32;
 use pcg::Pcg64;
 use random::Backend;
@@ -153,7 +152,7 @@ fn whole_words(e: Engine, mt: &mut [u32; 624], dest: &mut [u8]) -> Engine
 
 // Fills the buffer, and hands back the engine after the words that it took.
 pub fn fill_bytes_in(e: Engine, mt: &mut [u32; 624], dest: &mut [u8]) -> Engine
-    ensures { λ r. ⌜ FilledFrom (lent e (now (mt .entry))) (length (now (dest .entry))) (now (dest .exit)) (lent r (now (mt .exit))) ⌝ }
+    ensures { λ r. ⌜ FillBytesInPromise e (now (mt .entry)) (now (dest .entry)) r (now (mt .exit)) (now (dest .exit)) ⌝ }
 {
     let backend = e.backend;
     let width = random::width(backend);
@@ -170,7 +169,7 @@ pub fn fill_bytes_in(e: Engine, mt: &mut [u32; 624], dest: &mut [u8]) -> Engine
 
 // Fills the buffer.
 pub fn fill_bytes(g: Random, dest: &mut [u8]) -> Random
-    ensures { λ r. ⌜ (now (dest .exit) ≡ filledBytes (genOf g) (length (now (dest .entry)))) × (r ≡ fillNext g (length (now (dest .entry)))) ⌝ }
+    ensures { λ r. ⌜ FillBytesPromise g (now (dest .entry)) r (now (dest .exit)) ⌝ }
 {
     let mut moved = g;
     let e = fill_bytes_in(random::engine_of(g), &mut moved.twister.mt, dest);
