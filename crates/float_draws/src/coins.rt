@@ -1,7 +1,7 @@
 // `bool`: one double is drawn, also at p = 0 and 1, and asked whether it is below p.
 ghost use mathlib.Core.Path.{_≡_};
-ghost use Rattle.random.specs.Lent.{lent};
-ghost use Rattle.float_draws.specs.Coins.{flipFrom, flipIn, flipped, stepsOf};
+ghost use Rattle.float_draws.specs.Coins.{stepsOf};
+ghost use Rattle.float_draws.specs.Promises.{BoolInPromise, BoolPromise};
 use random::Backend;
 use random::Engine;
 use random::Random;
@@ -33,7 +33,7 @@ fn steps(backend: Backend) -> u32
 }
 
 pub fn bool_in(e: Engine, mt: &mut [u32; 624], p: f64) -> EngineFlip
-    ensures { λ r. ⌜ flipped r (now (mt .exit)) ≡ flipIn (lent e (now (mt .entry))) p ⌝ }
+    ensures { λ r. ⌜ BoolInPromise e (now (mt .entry)) p r (now (mt .exit)) ⌝ }
 {
     if floats::is_chance(p) {
         let backend = e.backend;
@@ -57,7 +57,7 @@ pub fn bool_in(e: Engine, mt: &mut [u32; 624], p: f64) -> EngineFlip
 }
 
 pub fn bool(g: Random, p: f64) -> Flip
-    ensures { λ r. ⌜ r ≡ flipFrom g p ⌝ }
+    ensures { λ r. ⌜ BoolPromise g p r ⌝ }
 {
     let mut moved = g;
     let d = bool_in(engine_of(g), &mut moved.twister.mt, p);

@@ -1,7 +1,5 @@
 // `uniform`: a number of an interval, or the refusal's number, with the next generator beside it.
-ghost use mathlib.Core.Path.{_≡_};
-ghost use Rattle.random.specs.Lent.{lent};
-ghost use Rattle.float_draws.specs.Spreads.{spreadFrom, spreadIn, spread};
+ghost use Rattle.float_draws.specs.Promises.{UniformInPromise, UniformPromise};
 use floats::Interval;
 use floats::Uniform;
 use random::Engine;
@@ -22,7 +20,7 @@ pub struct EngineSpread {
 }
 
 pub fn uniform_in(e: Engine, mt: &mut [u32; 624], i: Interval) -> EngineSpread
-    ensures { λ r. ⌜ spread r (now (mt .exit)) ≡ spreadIn (lent e (now (mt .entry))) i ⌝ }
+    ensures { λ r. ⌜ UniformInPromise e (now (mt .entry)) i r (now (mt .exit)) ⌝ }
 {
     let refused = floats::interval_refusal(i);
     if refused == refusal::ANSWERED {
@@ -41,7 +39,7 @@ pub fn uniform_in(e: Engine, mt: &mut [u32; 624], i: Interval) -> EngineSpread
 }
 
 pub fn uniform(g: Random, i: Interval) -> Spread
-    ensures { λ r. ⌜ r ≡ spreadFrom g i ⌝ }
+    ensures { λ r. ⌜ UniformPromise g i r ⌝ }
 {
     let mut moved = g;
     let d = uniform_in(engine_of(g), &mut moved.twister.mt, i);

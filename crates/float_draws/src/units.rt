@@ -1,7 +1,5 @@
 // Numbers from 0 up to, and without, 1.
-ghost use mathlib.Core.Path.{_≡_};
-ghost use Rattle.random.specs.Lent.{lent};
-ghost use Rattle.float_draws.specs.Units.{floatFrom, doubleFrom, floatIn, doubleIn, float32, float64};
+ghost use Rattle.float_draws.specs.Promises.{FloatInPromise, DoubleInPromise, FloatPromise, DoublePromise};
 use random::Engine;
 use random::Random;
 use random::engine_of;
@@ -31,7 +29,7 @@ pub struct EngineDrawn64 {
 
 // (word >> 8) / 2^24 of the next word.
 pub fn float_in(e: Engine, mt: &mut [u32; 624]) -> EngineDrawn32
-    ensures { λ r. ⌜ float32 r (now (mt .exit)) ≡ floatIn (lent e (now (mt .entry))) ⌝ }
+    ensures { λ r. ⌜ FloatInPromise e (now (mt .entry)) r (now (mt .exit)) ⌝ }
 {
     let d = random::next_u32(e, mt);
     let next = d.next;
@@ -43,7 +41,7 @@ pub fn float_in(e: Engine, mt: &mut [u32; 624]) -> EngineDrawn32
 
 // (word >> 11) / 2^53 of the next 64-bit word, by the kind's own order of halves.
 pub fn double_in(e: Engine, mt: &mut [u32; 624]) -> EngineDrawn64
-    ensures { λ r. ⌜ float64 r (now (mt .exit)) ≡ doubleIn (lent e (now (mt .entry))) ⌝ }
+    ensures { λ r. ⌜ DoubleInPromise e (now (mt .entry)) r (now (mt .exit)) ⌝ }
 {
     let d = random::next_u64(e, mt);
     let next = d.next;
@@ -54,7 +52,7 @@ pub fn double_in(e: Engine, mt: &mut [u32; 624]) -> EngineDrawn64
 }
 
 pub fn float(g: Random) -> Drawn32
-    ensures { λ r. ⌜ r ≡ floatFrom g ⌝ }
+    ensures { λ r. ⌜ FloatPromise g r ⌝ }
 {
     let mut moved = g;
     let d = float_in(engine_of(g), &mut moved.twister.mt);
@@ -68,7 +66,7 @@ pub fn float(g: Random) -> Drawn32
 }
 
 pub fn double(g: Random) -> Drawn64
-    ensures { λ r. ⌜ r ≡ doubleFrom g ⌝ }
+    ensures { λ r. ⌜ DoublePromise g r ⌝ }
 {
     let mut moved = g;
     let d = double_in(engine_of(g), &mut moved.twister.mt);

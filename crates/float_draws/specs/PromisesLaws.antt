@@ -1,0 +1,62 @@
+-- Each promise leaves one answer: two that both meet it are equal.
+-- Assumes nothing.
+use mathlib.Core.List.{List}
+use mathlib.Core.Path.{_≡_, sym, _∙_, ap}
+use Prim.Native.Nat.{ℕ}
+use lib.Ieee.{Float}
+use Rattle.floats.specs.declared.intervals.Interval.{Interval}
+use Rattle.random.specs.LentLaws.{engineFrom, tableFrom}
+use Rattle.random.specs.declared.backend.Random.{Random}
+use Rattle.random.specs.declared.engine.Engine.{Engine}
+use Rattle.float_draws.specs.Coins.{Tossed, flipped}
+use Rattle.float_draws.specs.Promises.{BoolInPromise, BoolPromise, DoubleInPromise, DoublePromise, FloatInPromise, FloatPromise, UniformInPromise, UniformPromise}
+use Rattle.float_draws.specs.Spreads.{Spreading, spread}
+use Rattle.float_draws.specs.Units.{Floated, float32, float64}
+use Rattle.float_draws.specs.declared.coins.EngineFlip.{EngineFlip}
+use Rattle.float_draws.specs.declared.coins.Flip.{Flip}
+use Rattle.float_draws.specs.declared.intervals.EngineSpread.{EngineSpread}
+use Rattle.float_draws.specs.declared.intervals.Spread.{Spread}
+use Rattle.float_draws.specs.declared.units.Drawn32.{Drawn32}
+use Rattle.float_draws.specs.declared.units.Drawn64.{Drawn64}
+use Rattle.float_draws.specs.declared.units.EngineDrawn32.{EngineDrawn32}
+use Rattle.float_draws.specs.declared.units.EngineDrawn64.{EngineDrawn64}
+
+-- ---- what a call over a lent table tells is its answer and that table
+
+flip-apart : {a b : EngineFlip} {m n : List ℕ} → flipped a m ≡ flipped b n → (a ≡ b) × (m ≡ n)
+flip-apart h = (ap (λ (x : Tossed). record { refusal = x .refusal; value = x .value; used = x .used; next = engineFrom (x .next) }) h, ap (λ (x : Tossed). tableFrom (x .next)) h)
+
+spread-apart : {a b : EngineSpread} {m n : List ℕ} → spread a m ≡ spread b n → (a ≡ b) × (m ≡ n)
+spread-apart h = (ap (λ (x : Spreading). record { answer = x .answer; next = engineFrom (x .next) }) h, ap (λ (x : Spreading). tableFrom (x .next)) h)
+
+float32-apart : {a b : EngineDrawn32} {m n : List ℕ} → float32 a m ≡ float32 b n → (a ≡ b) × (m ≡ n)
+float32-apart h = (ap (λ (x : Floated). record { value = x .value; next = engineFrom (x .next) }) h, ap (λ (x : Floated). tableFrom (x .next)) h)
+
+float64-apart : {a b : EngineDrawn64} {m n : List ℕ} → float64 a m ≡ float64 b n → (a ≡ b) × (m ≡ n)
+float64-apart h = (ap (λ (x : Floated). record { value = x .value; next = engineFrom (x .next) }) h, ap (λ (x : Floated). tableFrom (x .next)) h)
+
+-- ---- one answer
+
+pub one-bool-in : (e : Engine) (mt : List ℕ) (p : Float) {a b : EngineFlip} {mt₁ mt₂ : List ℕ} → BoolInPromise e mt p a mt₁ → BoolInPromise e mt p b mt₂ → (a ≡ b) × (mt₁ ≡ mt₂)
+one-bool-in e mt p h k = flip-apart (h ∙ sym k)
+
+pub one-bool : (g : Random) (p : Float) {a b : Flip} → BoolPromise g p a → BoolPromise g p b → a ≡ b
+one-bool g p h k = h ∙ sym k
+
+pub one-uniform-in : (e : Engine) (mt : List ℕ) (i : Interval) {a b : EngineSpread} {mt₁ mt₂ : List ℕ} → UniformInPromise e mt i a mt₁ → UniformInPromise e mt i b mt₂ → (a ≡ b) × (mt₁ ≡ mt₂)
+one-uniform-in e mt i p q = spread-apart (p ∙ sym q)
+
+pub one-uniform : (g : Random) (i : Interval) {a b : Spread} → UniformPromise g i a → UniformPromise g i b → a ≡ b
+one-uniform g i p q = p ∙ sym q
+
+pub one-float-in : (e : Engine) (mt : List ℕ) {a b : EngineDrawn32} {mt₁ mt₂ : List ℕ} → FloatInPromise e mt a mt₁ → FloatInPromise e mt b mt₂ → (a ≡ b) × (mt₁ ≡ mt₂)
+one-float-in e mt p q = float32-apart (p ∙ sym q)
+
+pub one-double-in : (e : Engine) (mt : List ℕ) {a b : EngineDrawn64} {mt₁ mt₂ : List ℕ} → DoubleInPromise e mt a mt₁ → DoubleInPromise e mt b mt₂ → (a ≡ b) × (mt₁ ≡ mt₂)
+one-double-in e mt p q = float64-apart (p ∙ sym q)
+
+pub one-float : (g : Random) {a b : Drawn32} → FloatPromise g a → FloatPromise g b → a ≡ b
+one-float g p q = p ∙ sym q
+
+pub one-double : (g : Random) {a b : Drawn64} → DoublePromise g a → DoublePromise g b → a ≡ b
+one-double g p q = p ∙ sym q
