@@ -1,256 +1,172 @@
-//! Draws within a budget. The original, run on a clone, tells how many words a draw takes: the port must answer at that budget and at
-//! larger ones, and refuse with 8 at every smaller one, leaving everything as it came.
+//! Draws within a budget, whatever the call. The original tells by its own run how many words a draw takes: the port must answer at
+//! that budget and at larger ones, and refuse with 8 at smaller ones, leaving generator and list as they came.
 
-use super::{read, starts, Port, KINDS};
-use crate::seeds::Simple;
+use super::{parts, port_of, rejecting, starts, KINDS};
 use crate::tally::{Row, Tally};
-use port::Parts;
 use std::fmt::Debug;
-use vrd_original::Random;
+use vrd::{Drawn, Random as Port, Refusal};
+use vrd_original::Random as Original;
 
-/// What a draw answers: refusal, value, words used, and the small parts after it.
-type Answer<V> = (u32, V, u32, Parts);
+/// Draws of each call and kind in long runs, of a shuffle its draws of places.
+const DRAWS: u64 = 1_000_000;
+
+/// Draws from each start with each case: past the words of 0 of the states that reject. Lists that take more than `MANY` are drawn in
+/// long runs only.
+const FEW: u32 = 36;
+const MANY: u32 = 1_000;
 
 /// More words than any call here takes: a shuffle of 65,536 takes at least one for each entry but the last.
-const MANY_WORDS: u32 = 80_000;
+const MOST_WORDS: u32 = 200_000;
 
-pub fn compare(tally: &mut Tally) {
-    for (kind, name) in KINDS.into_iter().enumerate() {
-        tally.row(name, "vrd_bounded", |row| bounded(row, kind));
-        tally.row(name, "vrd_random_range", |row| random_range(row, kind));
-        tally.row(name, "vrd_char", |row| letters(row, kind));
-        tally.row(name, "vrd_uint", |row| uint(row, kind));
-        tally.row(name, "vrd_int", |row| {
-            int(row, kind, Random::int, |g, a, b, n| port::vrd_int(g.parts, &mut g.table, a, b, n))
-        });
-        tally.row(name, "vrd_range", |row| {
-            int(row, kind, Random::range, |g, a, b, n| port::vrd_range(g.parts, &mut g.table, a, b, n));
-        });
-        tally.row(name, "vrd_choose", |row| choose(row, kind));
-        tally.row(name, "vrd_rand_slice", |row| rand_slice(row, kind));
-        tally.row(name, "vrd_shuffle", |row| shuffle(row, kind));
+/// Arguments, how many draws they ask for, and whether these are settled by words of 0.
+pub struct Case<A> {
+    pub arguments: A,
+    draws: u32,
+    settled_by_zeros: bool,
+}
+
+impl<A> Case<A> {
+    /// Arguments that ask for draws below these bounds. Word 0 is good for the bounds that divide 2^32.
+    pub fn new(arguments: A, bounds: impl IntoIterator<Item = u64>) -> Self {
+        let (mut draws, mut settled_by_zeros) = (0, true);
+        for bound in bounds {
+            draws += 1;
+            settled_by_zeros &= bound.is_power_of_two();
+        }
+        Self { arguments, draws, settled_by_zeros }
     }
 }
 
-/// The edges of a bound: 1, 2, 3, every power of two and its neighbours, the largest, and some between.
-fn bounds() -> Vec<u32> {
-    let mut bounds = vec![1, 3, u32::MAX - 1, u32::MAX, 6, 10, 26, 40, 3_000_000_000];
-    bounds.extend((1..32).flat_map(|k| [(1 << k) - 1, 1 << k, (1 << k) + 1]));
-    let mut simple = Simple::new(99);
-    bounds.extend((0..40).map(|_| (simple.next() as u32).max(1)));
-    bounds
+/// The words used or the refusal, and the value (of a list: what it holds afterwards).
+pub type Outcome<V> = (Result<u32, Refusal>, V);
+
+/// A call of either side on arguments; the port's takes the budget too.
+pub type OriginalCall<'a, A, V> = &'a dyn Fn(&mut Original, &A) -> V;
+pub type PortCall<'a, A, V> = &'a dyn Fn(&mut Port, &A, u32) -> Outcome<V>;
+
+/// A call on both sides.
+pub struct Call<'a, A, V> {
+    pub name: &'static str,
+    pub cases: Vec<Case<A>>,
+    /// The value where the call is refused.
+    pub refused: &'a dyn Fn(&A) -> V,
+    pub original: OriginalCall<'a, A, V>,
+    pub port: PortCall<'a, A, V>,
 }
 
-/// Generators of a kind that draw on without end. Of each kind one gives the word 0 first, which most bounds reject; of the twister
-/// some give k of them, also across a twist.
-fn sources(kind: usize) -> Vec<Random> {
-    let mut sources = starts::lively(kind);
-    sources.extend(starts::word_zero_first(kind));
-    sources
+/// The outcome of a call that answers a value.
+pub fn value<V>(answer: Result<Drawn<V>, Refusal>) -> Outcome<Option<V>> {
+    match answer {
+        Ok(drawn) => (Ok(drawn.used), Some(drawn.value)),
+        Err(refusal) => (Err(refusal), None),
+    }
+}
+
+impl<A: Debug, V: PartialEq + Debug> Call<'_, A, V> {
+    /// Every kind: from each start with each case, from some in a long run, and from the states whose words are all 0.
+    pub fn compare(&self, tally: &mut Tally) {
+        for (kind, name) in KINDS.into_iter().enumerate() {
+            tally.row(name, self.name, |row| {
+                let (still, mut lively): (Vec<_>, Vec<_>) =
+                    starts::all(kind).into_iter().partition(starts::stands_still);
+                self.without_end(row, &still);
+                self.long_runs(row, &lively);
+                lively.extend(rejecting::starts(kind));
+                self.each_start(row, &lively);
+                row.must_reject();
+            });
+        }
+    }
+
+    fn each_start(&self, row: &mut Row, starts: &[Original]) {
+        for start in starts {
+            for case in self.cases.iter().filter(|case| case.draws <= MANY) {
+                let (mut original, mut port) = (start.clone(), port_of(start));
+                for _ in 0..FEW.div_ceil(case.draws.max(1)) {
+                    self.draw(row, case, &mut original, &mut port, true);
+                }
+            }
+        }
+    }
+
+    fn long_runs(&self, row: &mut Row, starts: &[Original]) {
+        let share = DRAWS.div_ceil(starts.len() as u64);
+        for start in starts {
+            let (mut original, mut port) = (start.clone(), port_of(start));
+            let mut draws = 0;
+            while draws < share {
+                for case in &self.cases {
+                    self.draw(row, case, &mut original, &mut port, false);
+                    draws += u64::from(case.draws);
+                }
+            }
+        }
+    }
+
+    /// One draw at the budget that it takes and at one less; with `more`, at larger and smaller ones too. Both sides move on.
+    fn draw(&self, row: &mut Row, case: &Case<A>, original: &mut Original, port: &mut Port, more: bool) {
+        let start = original.clone();
+        let value = (self.original)(original, &case.arguments);
+        // A state that gives 0 for ever may stay the same: then no word was rejected.
+        let used = if start == *original { case.draws } else { words_between(&start, original) };
+        row.drew(used.into());
+        if used > case.draws {
+            row.rejected();
+        }
+        if more {
+            for budget in [used + 1, used + 1_000, u32::MAX] {
+                self.answered(row, case, &mut port.clone(), budget, (used, &value, original));
+            }
+            for budget in [0, used / 2].into_iter().filter(|&budget| budget < used) {
+                self.refused(row, case, port, budget, &start);
+            }
+        }
+        if used > 0 {
+            self.refused(row, case, port, used - 1, &start);
+        }
+        self.answered(row, case, port, used, (used, &value, original));
+    }
+
+    fn answered(&self, row: &mut Row, case: &Case<A>, port: &mut Port, budget: u32, told: (u32, &V, &Original)) {
+        let (used, value, end) = told;
+        let (answer, found) = (self.port)(port, &case.arguments, budget);
+        let what = || format!("{:?} with budget {budget}", case.arguments);
+        row.case((Ok(used), value, parts(end)), (answer, &found, port.parts()), what);
+    }
+
+    fn refused(&self, row: &mut Row, case: &Case<A>, port: &mut Port, budget: u32, start: &Original) {
+        let (answer, found) = (self.port)(port, &case.arguments, budget);
+        let expected = (self.refused)(&case.arguments);
+        let what = || format!("{:?} with budget {budget}", case.arguments);
+        row.case((Err(Refusal::Budget), &expected, parts(start)), (answer, &found, port.parts()), what);
+    }
+
+    /// From states whose words are all 0 the original draws on for ever, unless 0 is good for every draw: the port refuses at any
+    /// budget.
+    fn without_end(&self, row: &mut Row, starts: &[Original]) {
+        for start in starts {
+            for case in &self.cases {
+                let (mut original, mut port) = (start.clone(), port_of(start));
+                if case.settled_by_zeros {
+                    self.draw(row, case, &mut original, &mut port, true);
+                    continue;
+                }
+                for budget in [0, 1, case.draws, 700] {
+                    self.refused(row, case, &mut port, budget, start);
+                }
+            }
+        }
+    }
 }
 
 /// The words that took the generator from one state to the other.
-fn words_between(start: &Random, end: &Random) -> u32 {
+fn words_between(start: &Original, end: &Original) -> u32 {
     let mut at = start.clone();
-    for used in 0..MANY_WORDS {
+    for used in 0..MOST_WORDS {
         if at == *end {
             return used;
         }
         at.rand();
     }
-    panic!("the original took more than {MANY_WORDS} words");
-}
-
-/// One draw at the budgets that matter; the original's generator moves on. `least` is what it takes when no word is rejected.
-fn draw<V: Copy + Default + PartialEq + Debug>(
-    row: &mut Row,
-    original: &mut Random,
-    least: u32,
-    what: &str,
-    value: impl FnOnce(&mut Random) -> V,
-    port: impl Fn(&mut Port, u32) -> Answer<V>,
-) {
-    let start = read(original);
-    let before = original.clone();
-    let value = value(original);
-    let used = words_between(&before, original);
-    let end = read(original);
-    row.drew(used.into());
-    if used > least {
-        row.rejected();
-    }
-    for budget in [used, used + 1, used + 1_000, u32::MAX] {
-        let mut g = start.clone();
-        let answer = port(&mut g, budget);
-        row.case(((0, value, used, end.parts), end.table), (answer, g.table), || format!("{what}, budget {budget}"));
-    }
-    if used > 0 {
-        for budget in [0, used / 2, used - 1] {
-            let mut g = start.clone();
-            let answer = port(&mut g, budget);
-            let refused = (8, V::default(), 0, start.parts);
-            row.case((refused, start.table), (answer, g.table), || format!("{what}, budget {budget} of {used}"));
-        }
-    }
-}
-
-fn number<N: Copy>(a: port::Number<N>) -> Answer<N> {
-    (a.refusal, a.value, a.used, a.next)
-}
-
-fn bounded(row: &mut Row, kind: usize) {
-    for source in sources(kind) {
-        for bound in bounds() {
-            let mut original = source.clone();
-            for _ in 0..4 {
-                let port = |g: &mut Port, budget| number(port::vrd_bounded(g.parts, &mut g.table, bound, budget));
-                draw(row, &mut original, 1, &format!("bounded({bound})"), |g| g.bounded(bound), port);
-            }
-        }
-    }
-}
-
-fn random_range(row: &mut Row, kind: usize) {
-    let pairs: Vec<(u32, u32)> = bounds().into_iter().flat_map(|n| [(0, n), (u32::MAX - n, u32::MAX)]).collect();
-    for source in sources(kind) {
-        for &(min, max) in &pairs {
-            let mut original = source.clone();
-            let port = |g: &mut Port, budget| number(port::vrd_random_range(g.parts, &mut g.table, min, max, budget));
-            let what = format!("random_range({min}, {max})");
-            for _ in 0..3 {
-                draw(row, &mut original, 1, &what, |g| g.random_range(min, max), port);
-            }
-        }
-    }
-}
-
-fn letters(row: &mut Row, kind: usize) {
-    for mut original in sources(kind) {
-        for _ in 0..100 {
-            let port = |g: &mut Port, budget| number(port::vrd_char(g.parts, &mut g.table, budget));
-            draw(row, &mut original, 1, "char()", |g| g.char() as u32, port);
-        }
-    }
-}
-
-fn uint(row: &mut Row, kind: usize) {
-    let mut pairs = vec![(0, 0), (7, 7), (u32::MAX, u32::MAX), (0, u32::MAX)];
-    pairs.extend(bounds().into_iter().flat_map(|n| [(0, n), (u32::MAX - n, u32::MAX), (n / 2, n)]));
-    for source in sources(kind) {
-        for &(min, max) in &pairs {
-            let mut original = source.clone();
-            let least = u32::from(min < max);
-            let port = |g: &mut Port, budget| number(port::vrd_uint(g.parts, &mut g.table, min, max, budget));
-            for _ in 0..3 {
-                draw(row, &mut original, least, &format!("uint({min}, {max})"), |g| g.uint(min, max), port);
-            }
-        }
-    }
-}
-
-fn int(
-    row: &mut Row,
-    kind: usize,
-    original_call: fn(&mut Random, i32, i32) -> i32,
-    port_call: fn(&mut Port, i32, i32, u32) -> port::Number<i32>,
-) {
-    let mut pairs = vec![(0, 0), (5, 5), (i32::MIN, i32::MIN), (i32::MAX, i32::MAX), (i32::MIN, i32::MAX), (-1, 1)];
-    pairs.extend(bounds().into_iter().flat_map(|n| {
-        let up = i32::MIN.wrapping_add(n as i32);
-        let down = i32::MAX.wrapping_sub(n as i32);
-        [(i32::MIN, up), (down, i32::MAX), (-((n / 2) as i32).max(1), (n / 2) as i32)]
-    }));
-    for source in sources(kind) {
-        for &(min, max) in &pairs {
-            let mut original = source.clone();
-            let least = u32::from(min < max);
-            let port = |g: &mut Port, budget| number(port_call(g, min, max, budget));
-            for _ in 0..3 {
-                draw(row, &mut original, least, &format!("int({min}, {max})"), |g| original_call(g, min, max), port);
-            }
-        }
-    }
-}
-
-/// Lists of so many entries, no two alike.
-fn lists() -> Vec<Vec<u32>> {
-    let lengths = [1, 2, 3, 5, 7, 16, 17, 100, 255, 1_000, 32_769, 65_535, 65_536];
-    lengths.iter().map(|&n| (0..n).map(|i| i * 7 + 3).collect()).collect()
-}
-
-fn choose(row: &mut Row, kind: usize) {
-    let lists = lists();
-    for source in sources(kind) {
-        for list in &lists {
-            let mut original = source.clone();
-            let value = |g: &mut Random| {
-                let entry = *g.choose(list).expect("the list is not empty");
-                ((entry as usize - 3) / 7, entry)
-            };
-            let port = |g: &mut Port, budget| {
-                let a = port::choose(g.parts, &mut g.table, list, budget);
-                (a.refusal, (a.place, a.value), a.used, a.next)
-            };
-            for _ in 0..3 {
-                draw(row, &mut original, 1, &format!("choose from {}", list.len()), value, port);
-            }
-        }
-    }
-}
-
-fn rand_slice(row: &mut Row, kind: usize) {
-    let lists = lists();
-    for source in sources(kind) {
-        for list in &lists {
-            for window in [1, 2, list.len() / 2, list.len() - 1, list.len()] {
-                if window == 0 || window > list.len() {
-                    continue;
-                }
-                let mut original = source.clone();
-                let value = |g: &mut Random| {
-                    let part = g.rand_slice(list, window).expect("the window fits");
-                    (part[0] as usize - 3) / 7
-                };
-                let port = |g: &mut Port, budget| {
-                    let a = port::rand_slice(g.parts, &mut g.table, list, window, budget);
-                    (a.refusal, a.start, a.used, a.next)
-                };
-                let what = format!("rand_slice of {}, window {window}", list.len());
-                for _ in 0..3 {
-                    draw(row, &mut original, 1, &what, value, port);
-                }
-            }
-        }
-    }
-}
-
-/// Every length up to 40 and the longest; refused, the list is as it came.
-fn shuffle(row: &mut Row, kind: usize) {
-    for (place, source) in sources(kind).into_iter().enumerate() {
-        let long: &[u32] = if place == 0 { &[1_000, 65_535, 65_536] } else { &[100, 1_000] };
-        for length in (0..=40).chain(long.iter().copied()) {
-            let list: Vec<u32> = (0..length).map(|i| i * 7 + 3).collect();
-            let mut original = source.clone();
-            let mut wanted = list.clone();
-            original.shuffle(&mut wanted);
-            let used = words_between(&source, &original);
-            row.drew(used.into());
-            if used >= length.max(1) {
-                row.rejected();
-            }
-            let (start, end) = (read(&source), read(&original));
-            let mut budgets = vec![used, used + 1, u32::MAX];
-            if used > 0 {
-                budgets.extend([0, used / 2, used - 1]);
-            }
-            for budget in budgets {
-                let mut g = start.clone();
-                let mut found = list.clone();
-                let a = port::shuffle(g.parts, &mut g.table, &mut found, budget);
-                g.parts = a.next;
-                let expected = if budget >= used { (0, used, &wanted, &end) } else { (8, 0, &list, &start) };
-                row.case(expected, (a.refusal, a.used, &found, &g), || format!("shuffle of {length}, budget {budget}"));
-            }
-        }
-    }
+    panic!("the original took more than {MOST_WORDS} words");
 }

@@ -1,6 +1,6 @@
-//! Byte filling: every length from 0 to 100 and some long, one after the other, and pieces of one buffer.
+//! Byte filling: every length from 0 to 100 and some long, one after the other.
 
-use super::{read, starts, KINDS};
+use super::{parts, port_of, starts, KINDS};
 use crate::tally::{Row, Tally};
 use vrd_original::rand_core::TryRng;
 
@@ -9,23 +9,22 @@ const LONG: [usize; 9] = [255, 256, 1_000, 2_495, 2_496, 2_497, 4_999, 65_537, 1
 
 pub fn compare(tally: &mut Tally) {
     for (kind, name) in KINDS.into_iter().enumerate() {
-        tally.row(name, "vrd_fill_bytes", |row| fill(row, kind));
+        tally.row(name, "fill_bytes", |row| fill(row, kind));
     }
 }
 
 fn fill(row: &mut Row, kind: usize) {
+    let width = if kind == 0 || kind == 3 { 8 } else { 4 };
     for (place, mut original) in starts::all(kind).into_iter().enumerate() {
-        let mut port = read(&original);
+        let mut port = port_of(&original);
         let long: &[usize] = if place < 3 { &LONG } else { &LONG[..6] };
         for length in (0..=100).chain(long.iter().copied()) {
             let mut wanted = vec![0xA5; length];
             let Ok(()) = original.try_fill_bytes(&mut wanted);
             let mut filled = vec![0x5A; length];
-            let moved = port::fill_bytes(port.parts, &mut port.table, &mut filled);
-            port.parts = moved.next;
-            row.case((0, wanted), (moved.refusal, filled), || format!("{length} bytes of start {place}"));
-            row.case(read(&original), port.clone(), || format!("the generator after {length} bytes of start {place}"));
-            let width = if kind == 0 || kind == 3 { 8 } else { 4 };
+            port.fill_bytes(&mut filled);
+            let what = || format!("{length} bytes of start {place}");
+            row.case((wanted, parts(&original)), (filled, port.parts()), what);
             row.drew(length.div_ceil(width) as u64);
         }
     }

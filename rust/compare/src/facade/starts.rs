@@ -1,7 +1,6 @@
 //! Where the comparisons of the facade begin: seeds, streams, byte seeds and states set by hand, of each kind.
 
 use crate::seeds::Simple;
-use port::Table;
 use vrd_original::pcg::{Pcg32, Pcg64};
 use vrd_original::rand_core::SeedableRng;
 use vrd_original::xoshiro::Xoshiro256PlusPlus;
@@ -14,7 +13,7 @@ pub fn xoshiro(x: Xoshiro256PlusPlus) -> Random {
     Random::from_backend(RngBackend::Xoshiro256PlusPlus(x))
 }
 
-pub fn twister(mt: Table, mti: u32) -> Random {
+pub fn twister(mt: [u32; 624], mti: u32) -> Random {
     let twister = MersenneTwister { mt, mti: mti as usize };
     Random::from_backend(RngBackend::MersenneTwister(Box::new(twister)))
 }
@@ -28,37 +27,20 @@ pub fn pcg64(p: Pcg64) -> Random {
 }
 
 /// The table that a seed makes.
-pub fn table(seed: u32) -> Table {
+pub fn table(seed: u32) -> [u32; 624] {
     let mut twister = MersenneTwister::new();
     twister.seed(seed);
     twister.mt
 }
 
-/// Generators whose first word is 0, and whose words go on changing: the twister's with 1, 2 and 5 such words, and with one before a twist.
-pub fn word_zero_first(kind: usize) -> Vec<Random> {
-    match kind {
-        0 => vec![xoshiro(Xoshiro256PlusPlus::from_parts([0, 0x1234_5678_9ABC_DEF0, 0x0FED_CBA9_8765_4321, 0]))],
-        1 => {
-            let mut all: Vec<_> = [1, 2, 5].map(|k| zeros_first(k, 4_357)).into();
-            let mut mt = table(99);
-            mt[623] = 0;
-            all.push(twister(mt, 623));
-            all
-        }
-        2 => vec![pcg32(Pcg32::from_parts(0, 0x1234_5678_9ABC_DEF1))],
-        _ => vec![pcg64(Pcg64::from_parts(0, 0x1234_5678_9ABC_DEF0_0FED_CBA9_8765_4321))],
-    }
+/// Whether the generator gives the word 0 for ever.
+pub fn stands_still(g: &Random) -> bool {
+    let mut at = g.clone();
+    (0..2_000).all(|_| at.rand() == 0)
 }
 
-/// A table whose first k entries temper to the word 0, at position 0.
-fn zeros_first(k: usize, seed: u32) -> Random {
-    let mut mt = table(seed);
-    mt[..k].fill(0);
-    twister(mt, 0)
-}
-
-/// Generators of a kind whose words go on changing: no draw from them is without end.
-pub fn lively(kind: usize) -> Vec<Random> {
+/// Seeds, streams, byte seeds, and ordinary states set by hand.
+fn made(kind: usize) -> Vec<Random> {
     let mut simple = Simple::new(7 + kind as u64);
     match kind {
         0 => {
@@ -93,7 +75,7 @@ pub fn lively(kind: usize) -> Vec<Random> {
 
 /// These and states that stand still or hardly move: zeros, ones, even increments.
 pub fn all(kind: usize) -> Vec<Random> {
-    let mut all = lively(kind);
+    let mut all = made(kind);
     match kind {
         0 => all
             .extend([[0; 4], [u64::MAX; 4], [0, 0, 0, 1]].map(|state| xoshiro(Xoshiro256PlusPlus::from_parts(state)))),

@@ -1,43 +1,53 @@
 //! The state: `seed` (after custom streams too), `split`, `mti`, `set_mti`, `twist` and equality.
 
-use super::{read, read_over, starts, Port, KINDS, UNUSED, UNUSED_TABLE};
+use super::{parts, port_of, starts, KINDS};
 use crate::seeds;
 use crate::tally::{Row, Tally};
-use port::Parts;
-use vrd_original::Random;
+use vrd::{Parts, Random as Port, Refusal};
+use vrd_original::Random as Original;
 
 /// The ordered departure: the port stores at most this.
 const HIGHEST_STORED: u32 = 624;
 
+/// The cases of one call on one kind.
+type Cases = fn(&mut Row, usize);
+
 pub fn compare(tally: &mut Tally) {
-    for (kind, name) in KINDS.into_iter().enumerate() {
-        tally.row(name, "vrd_seed", |row| seed(row, kind));
-        tally.row(name, "vrd_split", |row| split(row, kind));
-        tally.row(name, "vrd_mti, vrd_set_mti (at most 624), words after", |row| position(row, kind));
-        tally.row(name, "vrd_twist", |row| twist(row, kind));
-        tally.row(name, "vrd_same", |row| equality(row, kind));
+    let calls: [(&str, Cases); 5] = [
+        ("seed", seed),
+        ("split", split),
+        ("mti, set_mti (at most 624), words after", position),
+        ("twist", twist),
+        ("== (same)", equality),
+    ];
+    for (call, cases) in calls {
+        for (kind, name) in KINDS.into_iter().enumerate() {
+            tally.row(name, call, |row| cases(row, kind));
+        }
     }
 }
 
-/// The next words on both sides.
-fn same_words(row: &mut Row, original: &mut Random, port: &mut Port, words: u64, what: &str) {
+fn same_parts(row: &mut Row, original: &Original, port: &Port, what: &str) {
+    row.case(parts(original), port.parts(), || format!("the generator after {what}"));
+}
+
+/// The next words on both sides, and the parts after them.
+fn same_words(row: &mut Row, original: &mut Original, port: &mut Port, words: u64, what: &str) {
     for k in 0..words {
-        let drawn = port::vrd_u64(port.parts, &mut port.table);
-        port.parts = drawn.next;
-        row.case((0, original.u64()), (drawn.refusal, drawn.word), || format!("word {k} after {what}"));
+        row.case(original.u64(), port.u64(), || format!("word {k} after {what}"));
     }
+    same_parts(row, original, port, what);
     row.drew(words);
 }
 
 fn seed(row: &mut Row, kind: usize) {
     let seeds: Vec<u32> = seeds::short().into_iter().step_by(10).collect();
     for mut original in starts::all(kind) {
-        let mut port = read(&original);
+        let mut port = port_of(&original);
         for &seed in &seeds {
             original.seed(seed);
-            let moved = port::vrd_seed(port.parts, &mut port.table, seed);
-            port.parts = moved.next;
-            row.case((0, read(&original)), (moved.refusal, port.clone()), || format!("seed({seed})"));
+            port.seed(seed);
+            same_parts(row, &original, &port, "seed");
             same_words(row, &mut original, &mut port, 5, "seed");
         }
     }
@@ -46,23 +56,19 @@ fn seed(row: &mut Row, kind: usize) {
 /// Child and parent, their words, and children of the parent; the other kinds have none.
 fn split(row: &mut Row, kind: usize) {
     for mut original in starts::all(kind) {
-        let mut port = read(&original);
+        let mut port = port_of(&original);
         for times in 1..=3 {
-            let child = original.split();
-            let divided = port::vrd_split(port.parts);
-            port.parts = divided.parent;
-            row.case(read(&original), port.clone(), || format!("the parent of split {times}"));
-            let zeros = Parts { kind: 0, mti: 0, w0: 0, w1: 0, w2: 0, w3: 0 };
-            match child {
-                Some(mut child) => {
-                    let mut other = Port { parts: divided.child, table: UNUSED_TABLE };
-                    row.case((0, read(&child)), (divided.refusal, other.clone()), || {
-                        format!("the child of split {times}")
-                    });
+            match (original.split(), port.split()) {
+                (Some(mut child), Ok(mut other)) => {
+                    same_parts(row, &child, &other, "split, of the child");
                     same_words(row, &mut child, &mut other, 100, "split, of the child");
                 }
-                None => row.case((9, zeros), (divided.refusal, divided.child), || format!("no child of split {times}")),
+                (child, other) => {
+                    let refused = child.is_none().then_some(Refusal::NoSplit);
+                    row.case(refused, other.err(), || format!("the child of split {times}"));
+                }
             }
+            same_parts(row, &original, &port, "split, of the parent");
             same_words(row, &mut original, &mut port, 100, "split, of the parent");
         }
     }
@@ -72,57 +78,65 @@ fn split(row: &mut Row, kind: usize) {
 fn position(row: &mut Row, kind: usize) {
     for start in starts::all(kind) {
         for value in starts::POSITIONS {
-            let mut original = start.clone();
-            let mut port = read(&original);
-            row.case((0, original.mti()), told(&port), || "mti".into());
+            let (mut original, mut port) = (start.clone(), port_of(&start));
+            row.case(original.mti(), port.mti() as usize, || "mti".into());
             original.set_mti(value as usize);
-            let moved = port::vrd_set_mti(port.parts, value);
-            port.parts = moved.next;
-            row.case((0, original.mti().min(HIGHEST_STORED as usize)), told(&port), || format!("set_mti({value})"));
+            port.set_mti(value);
+            let stored = original.mti().min(HIGHEST_STORED as usize);
+            row.case(stored, port.mti() as usize, || format!("set_mti({value})"));
             same_words(row, &mut original, &mut port, 50, "set_mti");
         }
     }
 }
 
-fn told(port: &Port) -> (u32, usize) {
-    let position = port::vrd_mti(port.parts);
-    (position.refusal, position.mti as usize)
-}
-
 fn twist(row: &mut Row, kind: usize) {
     for mut original in starts::all(kind) {
-        let mut port = read(&original);
-        for times in 1..=3 {
+        let mut port = port_of(&original);
+        for _ in 1..=3 {
             original.twist();
-            let moved = port::vrd_twist(port.parts, &mut port.table);
-            port.parts = moved.next;
-            row.case((0, read(&original)), (moved.refusal, port.clone()), || {
-                format!("the generator after twist {times}")
-            });
+            port.twist();
+            same_parts(row, &original, &port, "twist");
             same_words(row, &mut original, &mut port, 3, "twist");
         }
     }
 }
 
-/// Each start of the kind against each start of every kind, the parts that a kind does not use being different on the two sides.
+/// Each start of the kind against each start of every kind, and against itself with one bit changed.
 fn equality(row: &mut Row, kind: usize) {
-    let others: Vec<Random> = (0..4).flat_map(starts::all).collect();
-    let unused = Parts { kind: 0, mti: 1, w0: 2, w1: 3, w2: 4, w3: 5 };
+    let others: Vec<Original> = (0..4).flat_map(starts::all).collect();
     for one in starts::all(kind) {
-        let left = read_over(&one, UNUSED, UNUSED_TABLE);
+        let left = port_of(&one);
         for other in &others {
-            let right = read_over(other, unused, [1; 624]);
-            let same = port::vrd_same(left.parts, &left.table, right.parts, &right.table);
-            row.case((0, one == *other), (same.refusal, same.equal), || format!("{one:?} == {other:?}"));
+            let what = || format!("{one:?} == {other:?}");
+            row.case(one == *other, left == port_of(other), what);
         }
-        // One entry of the table alone, each in turn.
-        if kind == 1 {
-            for place in (0..624).step_by(13).chain([623]) {
-                let mut right = left.clone();
-                right.table[place] ^= 1 << (place % 32);
-                let same = port::vrd_same(left.parts, &left.table, right.parts, &right.table);
-                row.case((0, false), (same.refusal, same.equal), || format!("entry {place} differs"));
-            }
+        for bit in 0..256 {
+            row.case(false, left == changed(left.parts(), bit), || format!("bit {bit} changed"));
         }
     }
+}
+
+/// A generator that differs in one bit: of the table every entry has its turn, and then the position.
+fn changed(parts: Parts<'_>, bit: usize) -> Port {
+    let changed = match parts {
+        Parts::Xoshiro256PlusPlus(mut words) => {
+            words[bit / 64] ^= 1 << (bit % 64);
+            Parts::Xoshiro256PlusPlus(words)
+        }
+        Parts::MersenneTwister { table, mti } if bit < 32 => Parts::MersenneTwister { table, mti: mti ^ (1 << bit) },
+        Parts::MersenneTwister { table, mti } => {
+            let mut table = *table;
+            table[(bit * 39 + 623) % 624] ^= 1 << (bit % 32);
+            return Port::from_parts(Parts::MersenneTwister { table: &table, mti });
+        }
+        Parts::Pcg32 { state, inc } => match (bit / 64) % 2 {
+            0 => Parts::Pcg32 { state: state ^ (1 << (bit % 64)), inc },
+            _ => Parts::Pcg32 { state, inc: inc ^ (1 << (bit % 64)) },
+        },
+        Parts::Pcg64 { state, inc } => match bit / 128 {
+            0 => Parts::Pcg64 { state: state ^ (1 << (bit % 128)), inc },
+            _ => Parts::Pcg64 { state, inc: inc ^ (1 << (bit % 128)) },
+        },
+    };
+    Port::from_parts(changed)
 }
