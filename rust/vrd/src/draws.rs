@@ -34,7 +34,7 @@ impl Random {
     #[inline]
     pub fn bounded(&mut self, bound: u32, budget: u32) -> Result<Drawn<u32>, Refusal> {
         let answer = exports::vrd_bounded(self.small, &mut self.table, bound, budget);
-        self.small = answer.next;
+        self.moves_to(&answer.next);
         number(answer)
     }
 
@@ -44,7 +44,7 @@ impl Random {
     #[inline]
     pub fn random_range(&mut self, min: u32, max: u32, budget: u32) -> Result<Drawn<u32>, Refusal> {
         let answer = exports::vrd_random_range(self.small, &mut self.table, min, max, budget);
-        self.small = answer.next;
+        self.moves_to(&answer.next);
         number(answer)
     }
 
@@ -54,7 +54,7 @@ impl Random {
     #[inline]
     pub fn int(&mut self, min: i32, max: i32, budget: u32) -> Result<Drawn<i32>, Refusal> {
         let answer = exports::vrd_int(self.small, &mut self.table, min, max, budget);
-        self.small = answer.next;
+        self.moves_to(&answer.next);
         number(answer)
     }
 
@@ -62,7 +62,7 @@ impl Random {
     #[inline]
     pub fn range(&mut self, min: i32, max: i32, budget: u32) -> Result<Drawn<i32>, Refusal> {
         let answer = exports::vrd_range(self.small, &mut self.table, min, max, budget);
-        self.small = answer.next;
+        self.moves_to(&answer.next);
         number(answer)
     }
 
@@ -70,7 +70,7 @@ impl Random {
     #[inline]
     pub fn uint(&mut self, min: u32, max: u32, budget: u32) -> Result<Drawn<u32>, Refusal> {
         let answer = exports::vrd_uint(self.small, &mut self.table, min, max, budget);
-        self.small = answer.next;
+        self.moves_to(&answer.next);
         number(answer)
     }
 
@@ -78,7 +78,7 @@ impl Random {
     #[inline]
     pub fn char(&mut self, budget: u32) -> Result<Drawn<char>, Refusal> {
         let answer = exports::vrd_char(self.small, &mut self.table, budget);
-        self.small = answer.next;
+        self.moves_to(&answer.next);
         // The export answers the letter's ASCII code, from 97 to 122.
         number(answer).map(|drawn| Drawn { value: char::from(drawn.value as u8), used: drawn.used })
     }

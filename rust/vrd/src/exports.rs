@@ -37,6 +37,35 @@ pub struct Parts {
     pub w3: u64,
 }
 
+/// Puts the parts that an export has just answered in the place of the old ones.
+///
+/// The export wrote them word by word, and a processor does not hand several narrow writes on to one wide read before they have
+/// reached the cache: a plain copy, by 16 bytes at a time, waits for that as long as the rest of the call takes. So the parts are
+/// read as they were written. They are written by 16 bytes, since that is how the next call reads them.
+#[cfg(target_arch = "x86_64")]
+#[inline]
+pub(crate) fn replace(parts: &mut Parts, next: &Parts) {
+    use core::arch::x86_64::{_mm_set_epi64x, _mm_storeu_si128};
+    use core::ptr::{from_mut, read_volatile};
+    let to = from_mut(parts).cast();
+    // SAFETY: what a reference leads to may be read; the two stores fill the first 32 of the 40 bytes of the parts, in the order of
+    // the fields, and the fields take any bits.
+    unsafe {
+        let first = u64::from(read_volatile(&next.mti)) << 32 | u64::from(read_volatile(&next.kind));
+        let [w0, w1, w2] = [&next.w0, &next.w1, &next.w2].map(|word| read_volatile(word) as i64);
+        _mm_storeu_si128(to, _mm_set_epi64x(w0, first as i64));
+        _mm_storeu_si128(to.add(1), _mm_set_epi64x(w2, w1));
+    }
+    parts.w3 = next.w3;
+}
+
+/// Puts the parts that an export has just answered in the place of the old ones.
+#[cfg(not(target_arch = "x86_64"))]
+#[inline]
+pub(crate) fn replace(parts: &mut Parts, next: &Parts) {
+    *parts = *next;
+}
+
 /// A word or a number, and the generator after it.
 #[repr(C)]
 #[derive(Clone, Copy, Debug, PartialEq)]

@@ -72,6 +72,12 @@ impl Random {
             },
         }
     }
+
+    /// The generator after a call.
+    #[inline]
+    pub(crate) fn moves_to(&mut self, next: &exports::Parts) {
+        exports::replace(&mut self.small, next);
+    }
 }
 
 impl PartialEq for Random {

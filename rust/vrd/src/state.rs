@@ -32,7 +32,8 @@ impl Random {
     /// Seeds the generator anew. The kind is kept, the seed widened to what the kind takes; the PCGs go to their default stream.
     #[inline]
     pub fn seed(&mut self, seed: u32) {
-        self.small = exports::vrd_seed(self.small, &mut self.table, seed).next;
+        let moved = exports::vrd_seed(self.small, &mut self.table, seed);
+        self.moves_to(&moved.next);
     }
 
     /// A second generator, of Xoshiro256++ alone: the child has the old state, and this one jumps (2^128 steps, say its
@@ -42,7 +43,7 @@ impl Random {
     #[inline]
     pub fn split(&mut self) -> Result<Self, Refusal> {
         let divided = exports::vrd_split(self.small);
-        self.small = divided.parent;
+        self.moves_to(&divided.parent);
         Refusal::or(divided.refusal, Self { small: divided.child, table: [0; 624] })
     }
 
@@ -55,12 +56,14 @@ impl Random {
     /// Sets the twister's position, at most to 624; nothing on the other kinds.
     #[inline]
     pub fn set_mti(&mut self, value: u32) {
-        self.small = exports::vrd_set_mti(self.small, value).next;
+        let moved = exports::vrd_set_mti(self.small, value);
+        self.moves_to(&moved.next);
     }
 
     /// Renews the twister's table and sets its position to 0; nothing on the other kinds.
     #[inline]
     pub fn twist(&mut self) {
-        self.small = exports::vrd_twist(self.small, &mut self.table).next;
+        let moved = exports::vrd_twist(self.small, &mut self.table);
+        self.moves_to(&moved.next);
     }
 }

@@ -34,7 +34,7 @@ impl Random {
     #[inline]
     pub fn rand(&mut self) -> u32 {
         let drawn = exports::vrd_rand(self.small, &mut self.table);
-        self.small = drawn.next;
+        self.moves_to(&drawn.next);
         drawn.word
     }
 
@@ -43,7 +43,7 @@ impl Random {
     #[inline]
     pub fn u64(&mut self) -> u64 {
         let drawn = exports::vrd_u64(self.small, &mut self.table);
-        self.small = drawn.next;
+        self.moves_to(&drawn.next);
         drawn.word
     }
 
@@ -51,7 +51,7 @@ impl Random {
     #[inline]
     pub fn i64(&mut self) -> i64 {
         let drawn = exports::vrd_i64(self.small, &mut self.table);
-        self.small = drawn.next;
+        self.moves_to(&drawn.next);
         drawn.word
     }
 
@@ -59,7 +59,7 @@ impl Random {
     #[inline]
     pub fn pseudo(&mut self) -> u32 {
         let drawn = exports::vrd_pseudo(self.small, &mut self.table);
-        self.small = drawn.next;
+        self.moves_to(&drawn.next);
         drawn.word
     }
 
@@ -67,6 +67,7 @@ impl Random {
     /// takes a whole word.
     #[inline]
     pub fn fill_bytes(&mut self, dest: &mut [u8]) {
-        self.small = exports::fill_bytes(self.small, &mut self.table, dest).next;
+        let moved = exports::fill_bytes(self.small, &mut self.table, dest);
+        self.moves_to(&moved.next);
     }
 }
