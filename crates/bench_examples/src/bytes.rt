@@ -5,8 +5,8 @@ use crate::report;
 use crate::report::Tally;
 
 fn tell_byte(byte: u8) {
-    report::text(b" ");
-    report::pattern(byte as u64, 2);
+    telling::text(b" ");
+    telling::pattern(byte as u64, 2);
 }
 
 fn tell_bytes(bytes: &[u8; 5]) {
@@ -33,13 +33,13 @@ fn of_kind_0(t: Tally) -> Tally {
     let mut mt = [0u32; 624];
     let mut bytes = [0u8; 5];
     let after = filling::fill_bytes_in(given::xoshiro(examples::WORD_64), &mut mt, &mut bytes);
-    report::text(b"five bytes of kind 0:");
+    telling::text(b"five bytes of kind 0:");
     tell_bytes(&bytes);
     let first = random::next_u64(given::xoshiro(examples::WORD_64), &mut mt);
     let stepped = first.next;
     let second = random::next_u64(stepped, &mut mt);
     let next = random::next_u64(after, &mut mt);
-    report::text(b" and one step");
+    telling::text(b" and one step");
     report::judged_with(t, are_said(&bytes), next.word == second.word)
 }
 
@@ -49,10 +49,10 @@ fn of_kind_1(t: Tally) -> Tally {
     let mut bytes = [0u8; 5];
     let given = given::set_words(&mut mt, 0x0403_0201, 0x0807_0605, 0);
     let after = filling::fill_bytes_in(given::twister(), &mut mt, &mut bytes);
-    report::text(b"five bytes of kind 1:");
+    telling::text(b"five bytes of kind 1:");
     tell_bytes(&bytes);
-    report::text(b", words used ");
-    report::small(after.mti);
+    telling::text(b", words used ");
+    telling::small(after.mti);
     if !given {
         return report::judged(t, false);
     }

@@ -8,11 +8,11 @@ use crate::report::Tally;
 use crate::report::Told;
 
 fn tell_word(budget: u32, word: u32) {
-    report::text(b", budget ");
-    report::small(budget);
+    telling::text(b", budget ");
+    telling::small(budget);
     if budget > 0 {
-        report::text(b", word ");
-        report::pattern(word as u64, 8);
+        telling::text(b", word ");
+        telling::word(word);
     }
 }
 
@@ -25,12 +25,12 @@ fn below(t: Tally, x: Below) -> Tally {
         value: a.value,
         used: a.used,
     };
-    report::text(b"below ");
-    report::small(x.r);
+    telling::text(b"below ");
+    telling::small(x.r);
     tell_word(x.budget, x.first);
     if x.budget > 1 {
-        report::text(b" and ");
-        report::pattern(x.second as u64, 8);
+        telling::text(b" and ");
+        telling::word(x.second);
     }
     report::draw(told);
     let says = x.says;
@@ -56,9 +56,9 @@ fn int(t: Tally, x: Int) -> Tally {
         value: above_least(x.value),
         used: x.used,
     };
-    report::text(b"int from ");
+    telling::text(b"int from ");
     report::signed(above_least(x.min));
-    report::text(b" to ");
+    telling::text(b" to ");
     report::signed(above_least(x.max));
     tell_word(x.budget, x.word);
     report::signed_draw(told);

@@ -30,19 +30,19 @@ fn low(word: u64) -> u32 {
 fn unit(t: Tally, x: Unit) -> Tally {
     let mut mt = [0u32; 624];
     if x.double {
-        report::text(b"double of ");
+        telling::text(b"double of ");
         let given = given::set_words(&mut mt, high(x.word), low(x.word), 0);
         return tell_unit(t, x, given, unit_pattern(true, &mut mt));
     }
-    report::text(b"float of ");
+    telling::text(b"float of ");
     let given = given::set_words(&mut mt, low(x.word), 0, 0);
     tell_unit(t, x, given, unit_pattern(false, &mut mt))
 }
 
 fn tell_unit(t: Tally, x: Unit, given: bool, pattern: u64) -> Tally {
-    report::pattern(x.word, 3);
-    report::text(b": the f64 ");
-    report::pattern(pattern, 16);
+    telling::pattern(x.word, 3);
+    telling::text(b": the f64 ");
+    telling::pattern(pattern, 16);
     report::judged_with(t, given, pattern == x.says)
 }
 
@@ -58,10 +58,10 @@ fn chance(t: Tally, x: Chance) -> Tally {
         value: one_if(a.value),
         used: a.used,
     };
-    report::text(b"bool, p = the f64 ");
-    report::pattern(x.p, 16);
-    report::text(b", word ");
-    report::pattern(x.word, 16);
+    telling::text(b"bool, p = the f64 ");
+    telling::pattern(x.p, 16);
+    telling::text(b", word ");
+    telling::pattern(x.word, 16);
     report::draw(told);
     let says = x.says;
     report::judged(t, report::same(told, says))
@@ -73,19 +73,19 @@ fn uniform(t: Tally) -> Tally {
         low: float_bits::number_of(examples::ONE),
         high: float_bits::number_of(examples::ABOVE_ONE),
     };
-    report::text(b"uniform from 1 to 1 + 2^-52, word all ones: ");
+    telling::text(b"uniform from 1 to 1 + 2^-52, word all ones: ");
     let d = float_draws::uniform_in(given::xoshiro(0xFFFF_FFFF_FFFF_FFFF), &mut mt, interval);
     let answer = d.answer;
     match answer {
         Uniform::Number(x) => {
             let pattern = float_bits::pattern_of(x);
-            report::text(b"the f64 ");
-            report::pattern(pattern, 16);
+            telling::text(b"the f64 ");
+            telling::pattern(pattern, 16);
             report::judged(t, pattern == examples::ABOVE_ONE)
         }
         Uniform::Refused(number) => {
-            report::text(b"refusal ");
-            report::small(number);
+            telling::text(b"refusal ");
+            telling::small(number);
             report::judged(t, false)
         }
     }

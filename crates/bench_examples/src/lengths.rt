@@ -33,10 +33,10 @@ fn are_places(list: &[u32]) -> bool {
 }
 
 fn tell_length(call: &[u8], entries: usize) {
-    report::text(call);
-    report::text(b" of ");
-    report::number(entries as u64);
-    report::text(b" entries");
+    telling::text(call);
+    telling::text(b" of ");
+    telling::number(entries as u64);
+    telling::text(b" entries");
 }
 
 fn choose(t: Tally, list: &[u32], says: Told) -> Tally {

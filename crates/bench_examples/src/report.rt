@@ -1,5 +1,7 @@
 // How an example is told: what it is, the answer, and whether that is what the document says.
-use libc::STDOUT_FILENO;
+use telling::number;
+use telling::small;
+use telling::text;
 
 // Examples that are as in the document, of so many.
 pub(crate) struct Tally {
@@ -12,25 +14,6 @@ pub(crate) struct Told {
     pub(crate) refusal: u32,
     pub(crate) value: u32,
     pub(crate) used: u32,
-}
-
-pub(crate) fn text(t: &[u8]) {
-    io::write_all(STDOUT_FILENO, t);
-}
-
-pub(crate) fn number(n: u64) {
-    io::print_decimal(STDOUT_FILENO, n);
-}
-
-// A number of 32 bits.
-pub(crate) fn small(n: u32) {
-    number(n as u64);
-}
-
-// A word or a bit pattern, in so many hexadecimal digits.
-pub(crate) fn pattern(n: u64, digits: usize) {
-    text(b"0x");
-    io::print_hex(STDOUT_FILENO, n, digits);
 }
 
 // The signed number that stands so far above the least one.

@@ -5,9 +5,9 @@ use crate::report::Tally;
 
 // A number, and what the document says of it.
 fn number(t: Tally, what: &[u8], n: u64, says: u64) -> Tally {
-    report::text(what);
-    report::text(b": ");
-    report::number(n);
+    telling::text(what);
+    telling::text(b": ");
+    telling::number(n);
     report::judged(t, n == says)
 }
 
@@ -67,8 +67,8 @@ pub(crate) fn run(t: Tally) -> Tally {
     );
     let mut q: u32 = 0;
     while q < 6 {
-        report::text(b"below 6, value ");
-        report::small(q);
+        telling::text(b"below 6, value ");
+        telling::small(q);
         tally = number(
             tally,
             b", words that give it",

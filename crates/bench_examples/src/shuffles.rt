@@ -16,14 +16,14 @@ fn shuffle(t: Tally, x: Shuffled) -> Tally {
         value: a.value,
         used: a.used,
     };
-    report::text(b"shuffle of 10, 20, 30, budget ");
-    report::small(x.budget);
-    report::text(b": ");
-    report::small(list[0]);
-    report::text(b", ");
-    report::small(list[1]);
-    report::text(b", ");
-    report::small(list[2]);
+    telling::text(b"shuffle of 10, 20, 30, budget ");
+    telling::small(x.budget);
+    telling::text(b": ");
+    telling::small(list[0]);
+    telling::text(b", ");
+    telling::small(list[1]);
+    telling::text(b", ");
+    telling::small(list[2]);
     report::draw(told);
     let says = x.says;
     let wanted = x.list;
