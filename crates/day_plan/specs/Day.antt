@@ -25,7 +25,3 @@ laidOut blanks n = replicate (min blanks n) blank ++ inletsFrom 1 (n - blanks)
 unfoldable pub plannedDay : Words → ℕ → List ℕ → ℕ → List ℕ
 plannedDay s blanks l budget =
     cond (eqb (shuffleBy s (length l) budget .refusal) answered) (shuffled s (laidOut blanks (length l)) budget) l
-
--- What the slot i of a day laid out holds, for code that lays it out: i + 1 less the blanks, and 0 below them.
-abbrev pub slotOf : ℕ → ℕ → ℕ
-slotOf blanks i = i + 1 - blanks

@@ -12,7 +12,11 @@ use lib.Seq.{getD-append-add, getD-set-same, getD-set-other, ext-getD}
 use Rattle.words.specs.Refusal.{answered}
 use Rattle.words.specs.Draw.{Words}
 use Rattle.shuffle.specs.Shuffle.{shuffleBy, shuffled}
-use Rattle.day_plan.specs.Day.{blank, inletsFrom, laidOut, plannedDay, slotOf}
+use Rattle.day_plan.specs.Day.{blank, inletsFrom, laidOut, plannedDay}
+
+-- what the slot i of a day laid out holds: i + 1 less the blanks, and 0 below them
+abbrev pub slotOf : ℕ → ℕ → ℕ
+slotOf blanks i = i + 1 - blanks
 
 pub inlets-length : (k n : ℕ) → length (inletsFrom k n) ≡ n
 unfolding inletsFrom

@@ -2,7 +2,7 @@
 -- blanks, and nothing else stands in any slot.
 -- Assumes nothing.
 use mathlib.Core.Path.{_≡_, refl, sym, _∙_, ap}
-use mathlib.Core.List.{List, [], _∷_, _++_}
+use mathlib.Core.List.{List, [], _∷_, _++_, append-nil}
 use Prim.Native.Nat.{ℕ, zero, suc, _+_, _-_, _≤_, _<_, min}
 use native.Mathlib.Decide.{decLe}
 use native.Mathlib.Nat.{lt-of-not-le}
@@ -83,6 +83,14 @@ module _ (inlets blanks : ℕ) where
 
       split : (x : ℕ) → howMany x (replicate b blank ++ inletsFrom 1 i) ≡ howMany x (replicate b blank) + howMany x (inletsFrom 1 i)
       split x = how-many-append x (replicate b blank) (inletsFrom 1 i)
+
+-- more blanks than slots: every slot is a blank
+pub all-blanks : (blanks n : ℕ) → n ≤ blanks → laidOut blanks n ≡ replicate n blank
+unfolding laidOut inletsFrom
+all-blanks blanks n h =
+    let some : min blanks n ≡ n = omega arith in
+    let none : n - blanks ≡ 0 = omega arith in
+    rw (some, none) (append-nil (replicate n blank))
 
 -- ---- a shuffle has the same entries: so the plan has these shares, whatever the words
 

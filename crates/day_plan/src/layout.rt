@@ -3,7 +3,8 @@ ghost use mathlib.Core.Path.{_≡_};
 ghost use Prim.Native.Nat.{_<_, _≤_};
 ghost use lib.ListN.{length};
 ghost use Rattle.bounded.specs.Limit.{listLimit};
-ghost use Rattle.day_plan.specs.Day.{slotOf, laidOut};
+ghost use Rattle.day_plan.specs.Day.{laidOut};
+ghost use Rattle.day_plan.specs.DayLaws.{slotOf};
 
 // What the slot i holds: 0 where it is a blank, and otherwise its inlet.
 fn slot_of(blanks: usize, i: usize) -> u32

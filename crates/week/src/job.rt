@@ -78,6 +78,7 @@ fn bad_arguments() -> Asked
     Asked { bad: true, job }
 }
 
+// Each argument that is bad is told of.
 pub(crate) fn from_arguments() -> Asked
     ensures { λ a. ⌜ WithinLimit (a .job .inlets) (a .job .blanks) ⌝ }
 {
@@ -86,29 +87,11 @@ pub(crate) fn from_arguments() -> Asked
         return bad_arguments();
     }
     let kind = take(1, b"KIND", 0, 3);
-    if kind.bad {
-        return bad_arguments();
-    }
     let seed = take(2, b"SEED", 0, largest_seed(kind.number));
-    if seed.bad {
-        return bad_arguments();
-    }
     let inlets = take(3, b"INLETS", 1, LIST_LIMIT as u64);
-    if inlets.bad {
-        return bad_arguments();
-    }
     let blanks = take(4, b"BLANKS", 0, (LIST_LIMIT as u64) - inlets.number);
-    if blanks.bad {
-        return bad_arguments();
-    }
     let days = take(5, b"DAYS", 1, 0xffff_ffff);
-    if days.bad {
-        return bad_arguments();
-    }
     let budget = take(6, b"BUDGET", 0, 0xffff_ffff);
-    if budget.bad {
-        return bad_arguments();
-    }
     let job = Job {
         kind: kind.number,
         seed: seed.number,
@@ -117,5 +100,6 @@ pub(crate) fn from_arguments() -> Asked
         days: days.number as u32,
         budget: budget.number as u32,
     };
-    Asked { bad: false, job }
+    let bad = kind.bad || seed.bad || inlets.bad || blanks.bad || days.bad || budget.bad;
+    Asked { bad, job }
 }
