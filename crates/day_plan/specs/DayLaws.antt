@@ -34,20 +34,27 @@ module _ (blanks n : ℕ) where
   unfolding laidOut
   laid-length = simp (length-append, length-replicate, inlets-length) (omega arith)
 
+  -- the blanks and the inlets of a day laid out
+  abbrev front : List ℕ
+  front = replicate (min blanks n) blank
+
+  abbrev back : List ℕ
+  back = inletsFrom 1 (n - blanks)
+
   pub laid-slot : (j : ℕ) → j < n → getD (laidOut blanks n) j 0 ≡ slotOf blanks j
   unfolding laidOut
   laid-slot j h = elim (decLe blanks j) [ yes k ↦ inlet k | no k ↦ empty (lt-of-not-le k) ]
     where
-      empty : j < blanks → getD (replicate (min blanks n) blank ++ inletsFrom 1 (n - blanks)) j 0 ≡ slotOf blanks j
+      empty : j < blanks → getD (front ++ back) j 0 ≡ slotOf blanks j
       empty k =
-          let short : j < length (replicate (min blanks n) blank) = simp length-replicate (omega arith) in
-          List·getD-append (replicate (min blanks n) blank) (inletsFrom 1 (n - blanks)) 0 j short ∙ getD-replicate (min blanks n) j blank 0 (omega arith) ∙ omega arith
+          let short : j < length front = simp length-replicate (omega arith) in
+          List·getD-append front back 0 j short ∙ getD-replicate (min blanks n) j blank 0 (omega arith) ∙ omega arith
 
-      inlet : blanks ≤ j → getD (replicate (min blanks n) blank ++ inletsFrom 1 (n - blanks)) j 0 ≡ slotOf blanks j
+      inlet : blanks ≤ j → getD (front ++ back) j 0 ≡ slotOf blanks j
       inlet k =
-          let split : j ≡ length (replicate (min blanks n) blank) + (j - blanks) = simp length-replicate (omega arith) in
-          let at = getD-append-add (replicate (min blanks n) blank) (inletsFrom 1 (n - blanks)) (j - blanks) 0 in
-          ap (λ (i : ℕ). getD (replicate (min blanks n) blank ++ inletsFrom 1 (n - blanks)) i 0) split ∙ at ∙ inlet-at 1 (n - blanks) (j - blanks) (omega arith) ∙ omega arith
+          let split : j ≡ length front + (j - blanks) = simp length-replicate (omega arith) in
+          let there = inlet-at 1 (n - blanks) (j - blanks) (omega arith) in
+          ap (λ (i : ℕ). getD (front ++ back) i 0) split ∙ getD-append-add front back (j - blanks) 0 ∙ there ∙ omega arith
 
 -- ---- a day laid out up to the slot i
 
@@ -71,10 +78,16 @@ module _ {blanks i : ℕ} {l₀ l : List ℕ} (h : LaidTo blanks i l₀ l) where
       here j q = rw q (getD-set-same l i v 0 more ∙ e)
 
   pub laid-done : length l ≤ i → l ≡ laidOut blanks (length l₀)
-  laid-done end =
-      let same = h .same-length in
-      let each : (j : ℕ) → j < length l → getD l j 0 ≡ getD (laidOut blanks (length l₀)) j 0 = λ j k. h .laid j (omega arith) ∙ sym (laid-slot blanks (length l₀) j (omega arith)) in
-      ext-getD 0 l (laidOut blanks (length l₀)) (same ∙ sym (laid-length blanks (length l₀))) each
+  laid-done end = ext-getD 0 l day (same ∙ sym (laid-length blanks (length l₀))) each
+    where
+      day : List ℕ
+      day = laidOut blanks (length l₀)
+
+      same : length l ≡ length l₀
+      same = h .same-length
+
+      each : (j : ℕ) → j < length l → getD l j 0 ≡ getD day j 0
+      each j k = h .laid j (omega arith) ∙ sym (laid-slot blanks (length l₀) j (omega (arith, same)))
 
 -- ---- the plan by its cases
 
