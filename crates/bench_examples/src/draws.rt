@@ -1,6 +1,5 @@
 // The examples that draw a number: below a bound, and between two ends.
 use crate::examples;
-use crate::examples::Below;
 use crate::examples::Int;
 use crate::given;
 use crate::report;
@@ -16,24 +15,36 @@ fn tell_word(budget: u32, word: u32) {
     }
 }
 
-fn below(t: Tally, x: Below) -> Tally {
+fn tell_below(r: u32, first: u32, second: u32, budget: u32) {
+    telling::text(b"below ");
+    telling::small(r);
+    tell_word(budget, first);
+    if budget > 1 {
+        telling::text(b" and ");
+        telling::word(second);
+    }
+}
+
+fn below(t: Tally, row: [u32; 7]) -> Tally {
+    let r = row[0];
+    let first = row[1];
+    let second = row[2];
+    let budget = row[3];
+    let says = Told {
+        refusal: row[4],
+        value: row[5],
+        used: row[6],
+    };
     let mut mt = [0u32; 624];
-    let given = given::set_words(&mut mt, x.first, x.second, 0);
-    let a = bounded::bounded_in(given::twister(), &mut mt, x.r, x.budget);
+    let given = given::set_words(&mut mt, first, second, 0);
+    let a = bounded::bounded_in(given::twister(), &mut mt, r, budget);
     let told = Told {
         refusal: a.refusal,
         value: a.value,
         used: a.used,
     };
-    telling::text(b"below ");
-    telling::small(x.r);
-    tell_word(x.budget, x.first);
-    if x.budget > 1 {
-        telling::text(b" and ");
-        telling::word(x.second);
-    }
+    tell_below(r, first, second, budget);
     report::draw(told);
-    let says = x.says;
     report::judged_with(t, given, report::same(told, says))
 }
 

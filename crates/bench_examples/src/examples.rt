@@ -1,15 +1,6 @@
 // What the document says: each example with the words that it gives, and its answer.
 use crate::report::Told;
 
-// A draw below r. The budget says how many of the two words are given.
-pub(crate) struct Below {
-    pub(crate) r: u32,
-    pub(crate) first: u32,
-    pub(crate) second: u32,
-    pub(crate) budget: u32,
-    pub(crate) says: Told,
-}
-
 const OUT_OF_BUDGET: Told = Told {
     refusal: words::refusal::BUDGET,
     value: 0,
@@ -18,142 +9,29 @@ const OUT_OF_BUDGET: Told = Told {
 
 pub(crate) const BELOW_COUNT: usize = 13;
 
-pub(crate) const BELOW: [Below; BELOW_COUNT] = [
+// Draws below a bound: the bound, two words, of which the budget says how many are given, the budget; the refusal, the value, the words used.
+pub(crate) const BELOW: [[u32; 7]; BELOW_COUNT] = [
     // below 3: word 0 is rejected; 1 gives 0; 0x55555555 gives 0; 0x55555556 gives 1; 0xFFFFFFFF gives 2
-    Below {
-        r: 3,
-        first: 0,
-        second: 0,
-        budget: 1,
-        says: OUT_OF_BUDGET,
-    },
-    Below {
-        r: 3,
-        first: 0,
-        second: 1,
-        budget: 2,
-        says: Told {
-            refusal: 0,
-            value: 0,
-            used: 2,
-        },
-    },
-    Below {
-        r: 3,
-        first: 1,
-        second: 0,
-        budget: 1,
-        says: Told {
-            refusal: 0,
-            value: 0,
-            used: 1,
-        },
-    },
-    Below {
-        r: 3,
-        first: 0x5555_5555,
-        second: 0,
-        budget: 1,
-        says: Told {
-            refusal: 0,
-            value: 0,
-            used: 1,
-        },
-    },
-    Below {
-        r: 3,
-        first: 0x5555_5556,
-        second: 0,
-        budget: 1,
-        says: Told {
-            refusal: 0,
-            value: 1,
-            used: 1,
-        },
-    },
-    Below {
-        r: 3,
-        first: 0xFFFF_FFFF,
-        second: 0,
-        budget: 1,
-        says: Told {
-            refusal: 0,
-            value: 2,
-            used: 1,
-        },
-    },
+    [3, 0, 0, 1, 8, 0, 0],
+    [3, 0, 1, 2, 0, 0, 2],
+    [3, 1, 0, 1, 0, 0, 1],
+    [3, 0x5555_5555, 0, 1, 0, 0, 1],
+    [3, 0x5555_5556, 0, 1, 0, 1, 1],
+    [3, 0xFFFF_FFFF, 0, 1, 0, 2, 1],
     // below 6: 0x2AAAAAAB is rejected
-    Below {
-        r: 6,
-        first: 0x2AAA_AAAB,
-        second: 0,
-        budget: 1,
-        says: OUT_OF_BUDGET,
-    },
+    [6, 0x2AAA_AAAB, 0, 1, 8, 0, 0],
     // below 1: word 0 gives 0; budget 0 refuses with 8
-    Below {
-        r: 1,
-        first: 0,
-        second: 0,
-        budget: 1,
-        says: Told {
-            refusal: 0,
-            value: 0,
-            used: 1,
-        },
-    },
-    Below {
-        r: 1,
-        first: 0,
-        second: 0,
-        budget: 0,
-        says: OUT_OF_BUDGET,
-    },
+    [1, 0, 0, 1, 0, 0, 1],
+    [1, 0, 0, 0, 8, 0, 0],
     // below 0xFFFFFFFF: 0 is rejected; 1 gives 0; 0xFFFFFFFF gives 4294967294
-    Below {
-        r: 0xFFFF_FFFF,
-        first: 0,
-        second: 0,
-        budget: 1,
-        says: OUT_OF_BUDGET,
-    },
-    Below {
-        r: 0xFFFF_FFFF,
-        first: 1,
-        second: 0,
-        budget: 1,
-        says: Told {
-            refusal: 0,
-            value: 0,
-            used: 1,
-        },
-    },
-    Below {
-        r: 0xFFFF_FFFF,
-        first: 0xFFFF_FFFF,
-        second: 0,
-        budget: 1,
-        says: Told {
-            refusal: 0,
-            value: 4294967294,
-            used: 1,
-        },
-    },
+    [0xFFFF_FFFF, 0, 0, 1, 8, 0, 0],
+    [0xFFFF_FFFF, 1, 0, 1, 0, 0, 1],
+    [0xFFFF_FFFF, 0xFFFF_FFFF, 0, 1, 0, 4294967294, 1],
     // below 0x80000000: word 0x80000000 gives 1073741824
-    Below {
-        r: 0x8000_0000,
-        first: 0x8000_0000,
-        second: 0,
-        budget: 1,
-        says: Told {
-            refusal: 0,
-            value: 1073741824,
-            used: 1,
-        },
-    },
+    [0x8000_0000, 0x8000_0000, 0, 1, 0, 1073741824, 1],
 ];
 
-// `int` from min to max with one word; refused where the budget is 0 and a word is needed.
+// `int` from min to max, with a word where the budget is 1; none of these is refused.
 pub(crate) struct Int {
     pub(crate) min: i32,
     pub(crate) max: i32,
