@@ -38,11 +38,7 @@ fn below(t: Tally, row: [u32; 7]) -> Tally {
     let mut mt = [0u32; 624];
     let given = given::set_words(&mut mt, first, second, 0);
     let a = bounded::bounded_in(given::twister(), &mut mt, r, budget);
-    let told = Told {
-        refusal: a.refusal,
-        value: a.value,
-        used: a.used,
-    };
+    let told = report::of_answer(a);
     tell_below(r, first, second, budget);
     report::draw(told);
     report::judged_with(t, given, report::same(told, says))

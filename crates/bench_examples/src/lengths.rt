@@ -74,11 +74,7 @@ fn shuffle(t: Tally, list: &mut [u32], says: Told) -> Tally {
     let x = Xoshiro256PlusPlus::from_u64_seed(1);
     let e = random::engine_with(Backend::Xoshiro256PlusPlus(x), 0);
     let a = shuffle::shuffle_in(e, &mut mt, list, 0xFFFF_FFFF);
-    let told = Told {
-        refusal: a.refusal,
-        value: a.value,
-        used: a.used,
-    };
+    let told = report::of_answer(a);
     tell_length(b"shuffle", list.len());
     report::draw(told);
     let kept = are_places(list);

@@ -1,4 +1,5 @@
 // How an example is told: what it is, the answer, and whether that is what the document says.
+use bounded::EngineAnswer;
 use telling::number;
 use telling::small;
 use telling::text;
@@ -14,6 +15,14 @@ pub(crate) struct Told {
     pub(crate) refusal: u32,
     pub(crate) value: u32,
     pub(crate) used: u32,
+}
+
+pub(crate) fn of_answer(a: EngineAnswer) -> Told {
+    Told {
+        refusal: a.refusal,
+        value: a.value,
+        used: a.used,
+    }
 }
 
 // The signed number that stands so far above the least one.

@@ -4,18 +4,13 @@ use crate::examples::Shuffled;
 use crate::given;
 use crate::report;
 use crate::report::Tally;
-use crate::report::Told;
 
 fn shuffle(t: Tally, x: Shuffled) -> Tally {
     let mut mt = [0u32; 624];
     let given = given::set_words(&mut mt, 0, 1, 0xFFFF_FFFF);
     let mut list = [10u32, 20, 30];
     let a = shuffle::shuffle_in(given::twister(), &mut mt, &mut list, x.budget);
-    let told = Told {
-        refusal: a.refusal,
-        value: a.value,
-        used: a.used,
-    };
+    let told = report::of_answer(a);
     telling::text(b"shuffle of 10, 20, 30, budget ");
     telling::small(x.budget);
     telling::text(b": ");
