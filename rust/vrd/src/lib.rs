@@ -33,6 +33,9 @@
 #![deny(unsafe_code)]
 
 mod answers;
+#[doc(hidden)]
+#[allow(unsafe_code, missing_docs)]
+pub mod by_value;
 mod draws;
 #[doc(hidden)]
 #[allow(unsafe_code, missing_docs)]

@@ -29,10 +29,16 @@ fn exports(root: &Path) -> BTreeSet<String> {
 #[test]
 fn every_export_is_declared() {
     let root = Path::new(env!("CARGO_MANIFEST_DIR")).join("../..");
-    let exports = exports(&root);
-    assert!(exports.contains("vrd_rand"), "the exports were found: {exports:?}");
-    for declarations in ["include/vrd.h", "rust/vrd/src/exports.rs"] {
+    let (by_value, lent): (BTreeSet<_>, BTreeSet<_>) =
+        exports(&root).into_iter().partition(|name| name.ends_with("_by_value"));
+    assert!(lent.contains("vrd_rand") && by_value.contains("vrd_rand_by_value"), "the exports were found");
+    for (declarations, names) in [
+        ("include/vrd.h", &lent),
+        ("rust/vrd/src/exports.rs", &lent),
+        ("include/vrd_by_value.h", &by_value),
+        ("rust/vrd/src/by_value.rs", &by_value),
+    ] {
         let text = fs::read_to_string(root.join(declarations)).expect(declarations);
-        assert_eq!(called(&text), exports, "{declarations}");
+        assert_eq!(&called(&text), names, "{declarations}");
     }
 }
