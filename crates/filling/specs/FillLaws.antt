@@ -113,10 +113,6 @@ pub one-filling : {g : Gen} {n : ℕ} {bytes other : List ℕ} {next next′ : G
     → (bytes ≡ other) × (next ≡ next′)
 one-filling a b = (a .content ∙ sym (b .content), a .after ∙ sym (b .after))
 
--- and then one engine and one table
-pub one-engine : {e e′ : Engine} {t t′ : List ℕ} → lent e t ≡ lent e′ t′ → (e ≡ e′) × (t ≡ t′)
-one-engine h = (ap (λ (g : Gen). record { backend = g .backend; mti = g .twister .mti }) h, ap (λ (g : Gen). g .twister .mt) h)
-
 -- two buffers of one length come out alike, whatever they held
 pub old-content-is-lost : {g : Gen} (old old′ : List ℕ) {bytes other : List ℕ} {next next′ : Gen} → length old ≡ length old′
     → FilledFrom g (length old) bytes next → FilledFrom g (length old′) other next′ → bytes ≡ other
@@ -129,12 +125,6 @@ pub fill-is : (g : Random) (n : ℕ) (bytes : List ℕ) (e : Engine) (t : List �
     → (bytes ≡ filledBytes (genOf g) n) × (joinedWith e t ≡ fillNext g n)
 unfolding fillNext
 fill-is g n bytes e t h = (h .content, joined-later (fillWords (genOf g) n) g e t (h .after))
-
--- one content, one next generator
-pub one-filling-by-value : (g : Random) (n : ℕ) {bytes other : List ℕ} {next next′ : Random}
-    → (bytes ≡ filledBytes (genOf g) n) × (next ≡ fillNext g n) → (other ≡ filledBytes (genOf g) n) × (next′ ≡ fillNext g n)
-    → (bytes ≡ other) × (next ≡ next′)
-one-filling-by-value g n a b = (a .0 ∙ sym (b .0), a .1 ∙ sym (b .1))
 
 -- a buffer of length 0 leaves the generator alone
 pub fill-none : (g : Random) → fillNext g 0 ≡ g

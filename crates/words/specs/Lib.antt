@@ -33,5 +33,6 @@ pub mod DrawsLoop
 -- The bench examples.
 pub mod Table
 pub mod Bench
+-- The contracts by name, and that each leaves one answer.
 pub mod Promises
 pub mod PromisesLaws
