@@ -14,3 +14,6 @@ pub mod AnswerLaws
 pub mod RangeLaws
 -- The list limit.
 pub mod Limit
+-- The contracts by name, and that each leaves one answer.
+pub mod Promises
+pub mod PromisesLaws

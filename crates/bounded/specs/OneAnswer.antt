@@ -11,6 +11,7 @@ use Rattle.random.specs.declared.engine.Engine.{Engine}
 use Rattle.random.specs.Generator.{Gen, advance}
 use Rattle.random.specs.GeneratorLaws.{advance-none}
 use Rattle.random.specs.Lent.{lent}
+use Rattle.random.specs.LentLaws.{engineFrom, lent-apart}
 use Rattle.random.specs.Words.{later}
 use Rattle.random.specs.WordsLaws.{later-none}
 use Rattle.bounded.specs.declared.answers.Answer.{Answer}
@@ -37,13 +38,6 @@ module _ {a : Answer} (g : Random) (o : Outcome) (p : a ≡ answered g o) where
 
 -- ---- over a lent table
 
--- what a generator is made of: an engine and a table
-abbrev pub engineFrom : Gen → Engine
-engineFrom h = record { backend = h .backend; mti = h .twister .mti }
-
-pub lent-apart : (e e′ : Engine) (m m′ : List ℕ) → lent e m ≡ lent e′ m′ → (e ≡ e′) × (m ≡ m′)
-lent-apart e e′ m m′ h = (ap engineFrom h, ap (λ (g : Gen). g .twister .mt) h)
-
 module _ {a : EngineAnswer} {m : List ℕ} (g : Gen) (o : Outcome) (p : handed a m ≡ answeredIn g o) where
   pub next-after-used-in : lent (a .next) m ≡ advance (a .used) g
   unfolding answeredIn
@@ -62,7 +56,7 @@ pub refused-unmoved-in : {a : EngineAnswer} {m′ : List ℕ} {number : ℕ} (e 
 unfolding answeredIn
 refused-unmoved-in {a} {m′} e m o p q =
     let none : advance (o .used) (lent e m) ≡ lent e m = rw q (advance-none (lent e m)) in
-    lent-apart (a .next) e m′ m (ap (λ (x : LentAnswer). x .next) p ∙ none)
+    lent-apart (ap (λ (x : LentAnswer). x .next) p ∙ none)
 
 -- ---- a try of the loop
 
@@ -71,7 +65,7 @@ pub one-try : {g : Gen} {r budget : ℕ} {t u : Tried} {m m′ : List ℕ} → T
     → (t ≡ u) × (m ≡ m′)
 one-try {g} {t = t} {u = u} {m} {m′} p q =
     let used : t .used ≡ u .used = p .told .taken ∙ sym (q .told .taken) in
-    let (engine, table) = lent-apart (t .next) (u .next) m m′ (p .moved ∙ ap (λ (n : ℕ). advance n g) used ∙ sym (q .moved)) in
+    let (engine, table) = lent-apart (p .moved ∙ ap (λ (n : ℕ). advance n g) used ∙ sym (q .moved)) in
     let found = p .told .found ∙ sym (q .told .found) in
     let value = p .told .value ∙ sym (q .told .value) in
     let first = ap₂ {C = Tried} (λ (b : Bool) (v : ℕ). record { found = b; value = v; used = t .used; next = t .next }) found value in
