@@ -12,3 +12,6 @@ pub mod SpanBench
 -- The definitions by their cases, and the answers that code builds.
 pub mod SpanLaws
 pub mod IntAnswerLaws
+-- The contracts by name, and that each leaves one answer.
+pub mod Promises
+pub mod PromisesLaws

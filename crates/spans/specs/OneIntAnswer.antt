@@ -9,9 +9,9 @@ use Rattle.random.specs.declared.engine.Engine.{Engine}
 use Rattle.random.specs.Generator.{Gen, advance}
 use Rattle.random.specs.GeneratorLaws.{advance-none}
 use Rattle.random.specs.Lent.{lent}
+use Rattle.random.specs.LentLaws.{engineFrom, lent-apart}
 use Rattle.random.specs.Words.{later}
 use Rattle.random.specs.WordsLaws.{later-none}
-use Rattle.bounded.specs.OneAnswer.{engineFrom, lent-apart}
 use Rattle.spans.specs.declared.ints.IntAnswer.{IntAnswer}
 use Rattle.spans.specs.declared.ints.IntEngineAnswer.{IntEngineAnswer}
 use Rattle.spans.specs.Spans.{IntOutcome, intRefused}
@@ -50,4 +50,4 @@ pub int-refused-unmoved-in : {a : IntEngineAnswer} {m′ : List ℕ} {number : �
 unfolding intAnsweredIn
 int-refused-unmoved-in {a} {m′} e m o p q =
     let none : advance (o .used) (lent e m) ≡ lent e m = rw q (advance-none (lent e m)) in
-    lent-apart (a .next) e m′ m (ap (λ (x : IntLentAnswer). x .next) p ∙ none)
+    lent-apart (ap (λ (x : IntLentAnswer). x .next) p ∙ none)

@@ -1,10 +1,7 @@
 // Signed numbers between two ends, both included. The span is worked out in 64 bits; what is drawn is added modulo 2^32 and read back as signed.
 ghost use mathlib.Core.Path.{_≡_};
-ghost use Rattle.random.specs.Generator.{wordsOf};
-ghost use Rattle.random.specs.Lent.{lent};
-ghost use Rattle.bounded.specs.Answers.{wordsFrom};
-ghost use Rattle.spans.specs.IntAnswers.{intAnswered, intHanded, intAnsweredIn, countedAnswer, joinedInt};
-ghost use Rattle.spans.specs.Spans.{intBy};
+ghost use Rattle.spans.specs.IntAnswers.{countedAnswer, joinedInt};
+ghost use Rattle.spans.specs.Promises.{IntInPromise, IntPromise, RangeInPromise, RangePromise};
 use crate::span::spanned_in;
 use bounded::EngineAnswer;
 use random::Engine;
@@ -64,7 +61,7 @@ fn joined_int(a: IntEngineAnswer, mt: [u32; 624]) -> IntAnswer
 
 // A number from min up to max. Where it is refused the table is as it came.
 pub fn int_in(e: Engine, mt: &mut [u32; 624], min: i32, max: i32, budget: u32) -> IntEngineAnswer
-    ensures { λ a. ⌜ intHanded a (now (mt .exit)) ≡ intAnsweredIn (lent e (now (mt .entry))) (intBy (wordsOf (lent e (now (mt .entry)))) min max budget) ⌝ }
+    ensures { λ a. ⌜ IntInPromise e (now (mt .entry)) min max budget a (now (mt .exit)) ⌝ }
 {
     if max < min {
         return counted(min, bounded::refuse_in(words::refusal::ORDER, e));
@@ -74,7 +71,7 @@ pub fn int_in(e: Engine, mt: &mut [u32; 624], min: i32, max: i32, budget: u32) -
 
 // A number from min up to max.
 pub fn int(g: Random, min: i32, max: i32, budget: u32) -> IntAnswer
-    ensures { λ a. ⌜ a ≡ intAnswered g (intBy (wordsFrom g) min max budget) ⌝ }
+    ensures { λ a. ⌜ IntPromise g min max budget a ⌝ }
 {
     let mut moved = g;
     let a = int_in(
@@ -90,14 +87,14 @@ pub fn int(g: Random, min: i32, max: i32, budget: u32) -> IntAnswer
 
 // `int_in` by its other name.
 pub fn range_in(e: Engine, mt: &mut [u32; 624], min: i32, max: i32, budget: u32) -> IntEngineAnswer
-    ensures { λ a. ⌜ intHanded a (now (mt .exit)) ≡ intAnsweredIn (lent e (now (mt .entry))) (intBy (wordsOf (lent e (now (mt .entry)))) min max budget) ⌝ }
+    ensures { λ a. ⌜ RangeInPromise e (now (mt .entry)) min max budget a (now (mt .exit)) ⌝ }
 {
     int_in(e, mt, min, max, budget)
 }
 
 // `int` by its other name.
 pub fn range(g: Random, min: i32, max: i32, budget: u32) -> IntAnswer
-    ensures { λ a. ⌜ a ≡ intAnswered g (intBy (wordsFrom g) min max budget) ⌝ }
+    ensures { λ a. ⌜ RangePromise g min max budget a ⌝ }
 {
     int(g, min, max, budget)
 }

@@ -5,7 +5,8 @@ ghost use Rattle.words.specs.Refusal.{answered};
 ghost use Rattle.random.specs.Generator.{wordsOf};
 ghost use Rattle.random.specs.Lent.{lent};
 ghost use Rattle.bounded.specs.Answers.{handed, answeredIn};
-ghost use Rattle.spans.specs.Spans.{rawBy, spanBy};
+ghost use Rattle.spans.specs.Spans.{rawBy};
+ghost use Rattle.spans.specs.Promises.{SpannedInPromise, SpanKept};
 use bounded::EngineAnswer;
 use random::Engine;
 
@@ -23,8 +24,8 @@ fn raw_in(e: Engine, mt: &mut [u32; 624], budget: u32) -> EngineAnswer
 
 // A number from 0 up to `last`: 0 takes no word, and the largest `last` one raw word.
 pub fn spanned_in(e: Engine, mt: &mut [u32; 624], last: u32, budget: u32) -> EngineAnswer
-    ensures answer { λ a. ⌜ handed a (now (mt .exit)) ≡ answeredIn (lent e (now (mt .entry))) (spanBy (wordsOf (lent e (now (mt .entry)))) last budget) ⌝ }
-    ensures small { λ a. ⌜ (a .refusal ≡ answered → a .value ≤ last) ⌝ }
+    ensures answer { λ a. ⌜ SpannedInPromise e (now (mt .entry)) last budget a (now (mt .exit)) ⌝ }
+    ensures small { λ a. ⌜ SpanKept last a ⌝ }
 {
     if last == 0 {
         return bounded::accept_in(0, 0, e);

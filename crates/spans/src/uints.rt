@@ -1,9 +1,5 @@
 // Unsigned numbers between two ends, both included.
-ghost use mathlib.Core.Path.{_≡_};
-ghost use Rattle.random.specs.Generator.{wordsOf};
-ghost use Rattle.random.specs.Lent.{lent};
-ghost use Rattle.bounded.specs.Answers.{wordsFrom, answered, handed, answeredIn};
-ghost use Rattle.spans.specs.Spans.{uintBy};
+ghost use Rattle.spans.specs.Promises.{UintInPromise, UintPromise};
 use crate::span::spanned_in;
 use bounded::Answer;
 use bounded::EngineAnswer;
@@ -12,7 +8,7 @@ use random::Random;
 
 // A number from min up to max. Where it is refused the table is as it came.
 pub fn uint_in(e: Engine, mt: &mut [u32; 624], min: u32, max: u32, budget: u32) -> EngineAnswer
-    ensures { λ a. ⌜ handed a (now (mt .exit)) ≡ answeredIn (lent e (now (mt .entry))) (uintBy (wordsOf (lent e (now (mt .entry)))) min max budget) ⌝ }
+    ensures { λ a. ⌜ UintInPromise e (now (mt .entry)) min max budget a (now (mt .exit)) ⌝ }
 {
     if max < min {
         return bounded::refuse_in(words::refusal::ORDER, e);
@@ -22,7 +18,7 @@ pub fn uint_in(e: Engine, mt: &mut [u32; 624], min: u32, max: u32, budget: u32) 
 
 // A number from min up to max.
 pub fn uint(g: Random, min: u32, max: u32, budget: u32) -> Answer
-    ensures { λ a. ⌜ a ≡ answered g (uintBy (wordsFrom g) min max budget) ⌝ }
+    ensures { λ a. ⌜ UintPromise g min max budget a ⌝ }
 {
     let mut moved = g;
     let a = uint_in(
