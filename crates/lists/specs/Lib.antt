@@ -14,3 +14,6 @@ pub mod OneListAnswer
 pub mod CheckedAnswers
 pub mod ChoosingLaws
 pub mod SlicingLaws
+-- The contracts by name, and that each leaves one answer.
+pub mod Promises
+pub mod PromisesLaws

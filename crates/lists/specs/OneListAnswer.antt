@@ -10,11 +10,12 @@ use Rattle.random.specs.declared.engine.Engine.{Engine}
 use Rattle.random.specs.Generator.{Gen, advance}
 use Rattle.random.specs.GeneratorLaws.{advance-none}
 use Rattle.random.specs.Lent.{lent}
+use Rattle.random.specs.LentLaws.{lent-apart}
 use Rattle.random.specs.Words.{later}
 use Rattle.random.specs.WordsLaws.{later-none}
 use Rattle.bounded.specs.declared.answers.EngineAnswer.{EngineAnswer}
 use Rattle.bounded.specs.Answers.{handed, answeredIn}
-use Rattle.bounded.specs.OneAnswer.{lent-apart, next-after-used-in, one-answer-in, refused-unmoved-in}
+use Rattle.bounded.specs.OneAnswer.{next-after-used-in, one-answer-in, refused-unmoved-in}
 use Rattle.lists.specs.declared.places.Chosen.{Chosen}
 use Rattle.lists.specs.declared.places.EngineChosen.{EngineChosen}
 use Rattle.lists.specs.declared.windows.SliceStart.{SliceStart}
@@ -48,7 +49,7 @@ module _ {a : EngineChosen} {m : List ℕ} (g : Gen) (c : Choice) (p : handedCho
   pub one-choice-in : {b : EngineChosen} {m′ : List ℕ} → handedChoice b m′ ≡ chosenIn g c → (a ≡ b) × (m ≡ m′)
   one-choice-in {b} {m′} q =
       let same : handedChoice a m ≡ handedChoice b m′ = p ∙ sym q in
-      let (engine, table) = lent-apart (a .next) (b .next) m m′ (ap (λ (x : LentChoice). x .next) same) in (
+      let (engine, table) = lent-apart (ap (λ (x : LentChoice). x .next) same) in (
         ap (λ (x : LentChoice). record { refusal = x .refusal; place = x .place; value = x .value; used = x .used; next = a .next }) same
             ∙ ap (λ (e : Engine). record { refusal = b .refusal; place = b .place; value = b .value; used = b .used; next = e }) engine,
         table,
@@ -60,7 +61,7 @@ pub choice-unmoved-in : {a : EngineChosen} {m′ : List ℕ} {number : ℕ} (e :
 unfolding chosenIn
 choice-unmoved-in {a} {m′} e m c p q =
     let none : advance (c .used) (lent e m) ≡ lent e m = rw q (advance-none (lent e m)) in
-    lent-apart (a .next) e m′ m (ap (λ (x : LentChoice). x .next) p ∙ none)
+    lent-apart (ap (λ (x : LentChoice). x .next) p ∙ none)
 
 -- ---- `rand_slice` by value
 

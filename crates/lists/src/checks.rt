@@ -1,10 +1,9 @@
 // What a list and a window are refused with before a word is drawn; 0 where they are not.
-ghost use mathlib.Core.Path.{_≡_};
-ghost use Rattle.lists.specs.Checks.{listRefusal, windowRefusal, firstOf};
+ghost use Rattle.lists.specs.Promises.{ListRefusalPromise, WindowRefusalPromise, FirstOfPromise};
 
 // A list of n entries: only its length is looked at.
 pub fn list_refusal(n: usize) -> u32
-    ensures { λ r. ⌜ r ≡ listRefusal n ⌝ }
+    ensures { λ r. ⌜ ListRefusalPromise n r ⌝ }
 {
     if n == 0 {
         return words::refusal::EMPTY;
@@ -17,7 +16,7 @@ pub fn list_refusal(n: usize) -> u32
 
 // A window, in a list of n entries.
 pub fn window_refusal(n: usize, window: usize) -> u32
-    ensures { λ r. ⌜ r ≡ windowRefusal n window ⌝ }
+    ensures { λ r. ⌜ WindowRefusalPromise n window r ⌝ }
 {
     if window == 0 {
         return words::refusal::WINDOW;
@@ -30,7 +29,7 @@ pub fn window_refusal(n: usize, window: usize) -> u32
 
 // The first of two checks that refuses.
 pub fn first_of(first: u32, second: u32) -> u32
-    ensures { λ r. ⌜ r ≡ firstOf first second ⌝ }
+    ensures { λ r. ⌜ FirstOfPromise first second r ⌝ }
 {
     if first == words::refusal::ANSWERED {
         return second;

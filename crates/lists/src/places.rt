@@ -4,8 +4,9 @@ ghost use Prim.Native.Nat.{_<_};
 ghost use lib.ListN.{length};
 ghost use Rattle.random.specs.Generator.{wordsOf};
 ghost use Rattle.random.specs.Lent.{lent};
-ghost use Rattle.bounded.specs.Answers.{wordsFrom, handed, answeredIn};
-ghost use Rattle.lists.specs.Choosing.{placeBy, chooseBy, chosenBy, handedChoice, chosenIn};
+ghost use Rattle.bounded.specs.Answers.{handed, answeredIn};
+ghost use Rattle.lists.specs.Choosing.{placeBy};
+ghost use Rattle.lists.specs.Promises.{PlaceWithin, ChooseInPromise, ChoosePromise};
 use crate::checks::list_refusal;
 use bounded::EngineAnswer;
 use random::Engine;
@@ -32,7 +33,7 @@ pub struct EngineChosen {
 // A place of a list of n entries.
 fn place_in(e: Engine, mt: &mut [u32; 624], n: usize, budget: u32) -> EngineAnswer
     ensures answer { λ a. ⌜ handed a (now (mt .exit)) ≡ answeredIn (lent e (now (mt .entry))) (placeBy (wordsOf (lent e (now (mt .entry)))) n budget) ⌝ }
-    ensures within { λ a. ⌜ (a .refusal ≡ 0 → a .value < n) ⌝ }
+    ensures within { λ a. ⌜ PlaceWithin n (a .refusal) (a .value) ⌝ }
 {
     let number = list_refusal(n);
     if number == words::refusal::ANSWERED {
@@ -43,8 +44,8 @@ fn place_in(e: Engine, mt: &mut [u32; 624], n: usize, budget: u32) -> EngineAnsw
 
 // An entry of the list. Where it is refused the table is as it came.
 pub fn choose_in(e: Engine, mt: &mut [u32; 624], list: &[u32], budget: u32) -> EngineChosen
-    ensures answer { λ a. ⌜ handedChoice a (now (mt .exit)) ≡ chosenIn (lent e (now (mt .entry))) (chooseBy (wordsOf (lent e (now (mt .entry)))) (now (list .entry)) budget) ⌝ }
-    ensures within { λ a. ⌜ (a .refusal ≡ 0 → a .place < length (now (list .entry))) ⌝ }
+    ensures answer { λ a. ⌜ ChooseInPromise e (now (mt .entry)) (now (list .entry)) budget a (now (mt .exit)) ⌝ }
+    ensures within { λ a. ⌜ PlaceWithin (length (now (list .entry))) (a .refusal) (a .place) ⌝ }
 {
     let n = list.len();
     let a = place_in(e, mt, n, budget);
@@ -71,8 +72,8 @@ pub fn choose_in(e: Engine, mt: &mut [u32; 624], list: &[u32], budget: u32) -> E
 
 // An entry of the list.
 pub fn choose(g: Random, list: &[u32], budget: u32) -> Chosen
-    ensures answer { λ a. ⌜ a ≡ chosenBy g (chooseBy (wordsFrom g) (now (list .entry)) budget) ⌝ }
-    ensures within { λ a. ⌜ (a .refusal ≡ 0 → a .place < length (now (list .entry))) ⌝ }
+    ensures answer { λ a. ⌜ ChoosePromise g (now (list .entry)) budget a ⌝ }
+    ensures within { λ a. ⌜ PlaceWithin (length (now (list .entry))) (a .refusal) (a .place) ⌝ }
 {
     let mut moved = g;
     let a = choose_in(random::engine_of(g), &mut moved.twister.mt, list, budget);

@@ -4,8 +4,9 @@ ghost use Prim.Native.Nat.{_+_, _≤_};
 ghost use lib.ListN.{length};
 ghost use Rattle.random.specs.Generator.{wordsOf};
 ghost use Rattle.random.specs.Lent.{lent};
-ghost use Rattle.bounded.specs.Answers.{wordsFrom, handed, answeredIn};
-ghost use Rattle.lists.specs.Slicing.{sliceBy, startedBy, startAnswer, partOf};
+ghost use Rattle.bounded.specs.Answers.{handed, answeredIn};
+ghost use Rattle.lists.specs.Slicing.{sliceBy};
+ghost use Rattle.lists.specs.Promises.{PartFits, RandSliceInPromise, RandSlicePromise, WindowOfPromise};
 use crate::checks::first_of;
 use crate::checks::list_refusal;
 use crate::checks::window_refusal;
@@ -32,7 +33,7 @@ pub struct EngineSliceStart {
 // The start of a part that is window long, in a list of n entries.
 fn start_in(e: Engine, mt: &mut [u32; 624], n: usize, window: usize, budget: u32) -> EngineAnswer
     ensures answer { λ a. ⌜ handed a (now (mt .exit)) ≡ answeredIn (lent e (now (mt .entry))) (sliceBy (wordsOf (lent e (now (mt .entry)))) n window budget) ⌝ }
-    ensures room { λ a. ⌜ (a .refusal ≡ 0 → a .value + window ≤ n) ⌝ }
+    ensures room { λ a. ⌜ PartFits n window (a .refusal) (a .value) ⌝ }
 {
     let of_list = list_refusal(n);
     let of_window = window_refusal(n, window);
@@ -51,8 +52,8 @@ pub fn rand_slice_in(
     window: usize,
     budget: u32,
 ) -> EngineSliceStart
-    ensures answer { λ a. ⌜ handed (startAnswer a) (now (mt .exit)) ≡ answeredIn (lent e (now (mt .entry))) (sliceBy (wordsOf (lent e (now (mt .entry)))) (length (now (list .entry))) window budget) ⌝ }
-    ensures room { λ a. ⌜ (a .refusal ≡ 0 → a .start + window ≤ length (now (list .entry))) ⌝ }
+    ensures answer { λ a. ⌜ RandSliceInPromise e (now (mt .entry)) (now (list .entry)) window budget a (now (mt .exit)) ⌝ }
+    ensures room { λ a. ⌜ PartFits (length (now (list .entry))) window (a .refusal) (a .start) ⌝ }
 {
     let n = list.len();
     let a = start_in(e, mt, n, window, budget);
@@ -67,8 +68,8 @@ pub fn rand_slice_in(
 
 // The start of a part of the list that is window long.
 pub fn rand_slice(g: Random, list: &[u32], window: usize, budget: u32) -> SliceStart
-    ensures answer { λ a. ⌜ a ≡ startedBy g (sliceBy (wordsFrom g) (length (now (list .entry))) window budget) ⌝ }
-    ensures room { λ a. ⌜ (a .refusal ≡ 0 → a .start + window ≤ length (now (list .entry))) ⌝ }
+    ensures answer { λ a. ⌜ RandSlicePromise g (now (list .entry)) window budget a ⌝ }
+    ensures room { λ a. ⌜ PartFits (length (now (list .entry))) window (a .refusal) (a .start) ⌝ }
 {
     let mut moved = g;
     let a = rand_slice_in(
@@ -92,7 +93,7 @@ pub fn rand_slice(g: Random, list: &[u32], window: usize, budget: u32) -> SliceS
 // The part of the list that starts there and is window long; the empty part where the list ends before it. No sum here can wrap, and any
 // list will do, above the limit too.
 pub fn window_of(list: &[u32], start: usize, window: usize) -> &[u32]
-    ensures { λ r. ⌜ now r ≡ partOf (now (list .entry)) start window ⌝ }
+    ensures { λ r. ⌜ WindowOfPromise (now (list .entry)) start window (now r) ⌝ }
 {
     let n = list.len();
     if start <= n {
