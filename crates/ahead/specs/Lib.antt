@@ -4,3 +4,6 @@
 pub mod Ahead
 -- What code that takes words so may cite.
 pub mod AheadLaws
+-- The contracts by name, and that each leaves one answer.
+pub mod Promises
+pub mod PromisesLaws
