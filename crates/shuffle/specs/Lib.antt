@@ -21,3 +21,6 @@ pub mod SwapLaws
 pub mod Performing
 pub mod ShuffleLaws
 pub mod ShuffleAnswers
+-- The contracts by name, and that each leaves one answer.
+pub mod Promises
+pub mod PromisesLaws
