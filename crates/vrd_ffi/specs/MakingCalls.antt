@@ -13,7 +13,7 @@ use Rattle.random.specs.declared.backend.Backend.the-variants.{MersenneTwister}
 use Rattle.random.specs.declared.backend.Random.{Random}
 use Rattle.vrd_ffi.specs.declared.boundary.Parts.{Parts}
 use Rattle.vrd_ffi.specs.declared.making_calls.Made.{Made}
-use Rattle.vrd_ffi.specs.Answers.{Answered, answered, Held, held}
+use Rattle.vrd_ffi.specs.Answers.{Answered, answered, Held, held, become}
 use Rattle.vrd_ffi.specs.Boundary.{partsWith, zeroParts}
 
 -- a generator without its table
@@ -27,6 +27,14 @@ madeOf m = record { refusal = m .refusal; generator = partsOf (m .generator) }
 -- the twister's table, seeded in place
 abbrev pub twisterIn : List ℕ → ℕ → Gen
 twisterIn t seed = gen MersenneTwister (twister.seededIn t seed)
+
+-- a generator made beside its table: no value comes with it, which reads as 0
+abbrev pub begun : Parts → List ℕ → Held ℕ
+begun r t = held 0 r t
+
+-- the twister's small words, those that it does not use zeros, and its table
+abbrev pub twisterAt : List ℕ → ℕ → Held ℕ
+twisterAt t seed = become zeroParts 0 (twisterIn t seed)
 
 -- kind 1 has its table in the caller's; every other making, refused or not, leaves that as it came
 abbrev pub tableAs : (refused kind : ℕ) (seed t : List ℕ) → List ℕ

@@ -7,12 +7,7 @@ use borrow.Author.Tests.{eq-eqb, ne-eqb}
 use Rattle.making.specs.Make.{madeBytes}
 use Rattle.making.specs.declared.bytes.Made as library
 use Rattle.mersenne_twister.specs.Table as twister
-use Rattle.random.specs.Generator.{Gen, gen}
-use Rattle.random.specs.Lent.{lent}
-use Rattle.random.specs.declared.engine.Engine.{Engine}
 use Rattle.vrd_ffi.specs.declared.making_calls.Made.{Made}
-use Rattle.vrd_ffi.specs.Boundary.{engineOf, generatorOf, partsWith, zeroParts}
-use Rattle.vrd_ffi.specs.BoundaryLaws.{engine-of-parts}
 use Rattle.vrd_ffi.specs.MakingCalls.{madeOf, made, makeAt, twisterIn}
 
 module _ (kind : ℕ) (seed t : List ℕ) (a : Made) (m : library.Made) (p : a ≡ madeOf m) (q : m ≡ madeBytes kind seed) where
@@ -28,7 +23,3 @@ module _ (kind : ℕ) (seed t : List ℕ) (a : Made) (m : library.Made) (p : a �
 
   pub make-twister : m .refusal ≡ 0 → kind ≡ 1 → (u : List ℕ) → u ≡ twisterIn t (twister.folded seed) .twister .mt → made a u ≡ makeAt kind seed t
   make-twister z h u e = rw (eq-eqb (madeBytes kind seed .refusal) 0 (answer ∙ z), eq-eqb kind 1 h, e, p, q)
-
--- an engine's parts and its table are its generator
-pub generator-made : (e : Engine) (t : List ℕ) (g : Gen) → lent e t ≡ g → generatorOf (partsWith e zeroParts) t ≡ g
-generator-made e t g h = ap (λ (x : Engine). lent x t) (engine-of-parts e zeroParts) ∙ h

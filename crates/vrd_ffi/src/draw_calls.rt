@@ -1,6 +1,7 @@
 // Numbers drawn within a budget of words: below a bound, between two ends, a letter.
 ghost use mathlib.Core.Path.{_≡_};
-ghost use Rattle.vrd_ffi.specs.DrawCalls.{numberOf, unknownNumber, integerOf, number, integer, boundedAt, randomRangeAt, charAt, uintAt, intAt};
+ghost use Rattle.vrd_ffi.specs.DrawCalls.{numberOf, unknownNumber, integerOf};
+ghost use Rattle.vrd_ffi.specs.Promises.{BoundedPromise, RandomRangePromise, CharPromise, UintPromise, IntPromise, RangePromise};
 use crate::boundary::Parts;
 use crate::boundary::engine;
 use crate::boundary::parts_with;
@@ -65,7 +66,7 @@ fn integer_of(a: IntEngineAnswer, p: Parts) -> Integer
 
 #[no_mangle]
 pub extern "C" fn vrd_bounded(p: Parts, mt: &mut [u32; 624], r: u32, budget: u32) -> Number
-    ensures { λ a. ⌜ number a (now (mt .exit)) ≡ boundedAt p (now (mt .entry)) r budget ⌝ }
+    ensures { λ a. ⌜ BoundedPromise p (now (mt .entry)) r budget a (now (mt .exit)) ⌝ }
 {
     if p.kind > 3 {
         return unknown_number(p);
@@ -82,7 +83,7 @@ pub extern "C" fn vrd_random_range(
     max: u32,
     budget: u32,
 ) -> Number
-    ensures { λ a. ⌜ number a (now (mt .exit)) ≡ randomRangeAt p (now (mt .entry)) min max budget ⌝ }
+    ensures { λ a. ⌜ RandomRangePromise p (now (mt .entry)) min max budget a (now (mt .exit)) ⌝ }
 {
     if p.kind > 3 {
         return unknown_number(p);
@@ -93,7 +94,7 @@ pub extern "C" fn vrd_random_range(
 
 #[no_mangle]
 pub extern "C" fn vrd_char(p: Parts, mt: &mut [u32; 624], budget: u32) -> Number
-    ensures { λ a. ⌜ number a (now (mt .exit)) ≡ charAt p (now (mt .entry)) budget ⌝ }
+    ensures { λ a. ⌜ CharPromise p (now (mt .entry)) budget a (now (mt .exit)) ⌝ }
 {
     if p.kind > 3 {
         return unknown_number(p);
@@ -104,7 +105,7 @@ pub extern "C" fn vrd_char(p: Parts, mt: &mut [u32; 624], budget: u32) -> Number
 
 #[no_mangle]
 pub extern "C" fn vrd_uint(p: Parts, mt: &mut [u32; 624], min: u32, max: u32, budget: u32) -> Number
-    ensures { λ a. ⌜ number a (now (mt .exit)) ≡ uintAt p (now (mt .entry)) min max budget ⌝ }
+    ensures { λ a. ⌜ UintPromise p (now (mt .entry)) min max budget a (now (mt .exit)) ⌝ }
 {
     if p.kind > 3 {
         return unknown_number(p);
@@ -115,7 +116,7 @@ pub extern "C" fn vrd_uint(p: Parts, mt: &mut [u32; 624], min: u32, max: u32, bu
 
 #[no_mangle]
 pub extern "C" fn vrd_int(p: Parts, mt: &mut [u32; 624], min: i32, max: i32, budget: u32) -> Integer
-    ensures { λ a. ⌜ integer a (now (mt .exit)) ≡ intAt p (now (mt .entry)) min max budget ⌝ }
+    ensures { λ a. ⌜ IntPromise p (now (mt .entry)) min max budget a (now (mt .exit)) ⌝ }
 {
     if p.kind > 3 {
         return Integer {
@@ -138,7 +139,7 @@ pub extern "C" fn vrd_range(
     max: i32,
     budget: u32,
 ) -> Integer
-    ensures { λ a. ⌜ integer a (now (mt .exit)) ≡ intAt p (now (mt .entry)) min max budget ⌝ }
+    ensures { λ a. ⌜ RangePromise p (now (mt .entry)) min max budget a (now (mt .exit)) ⌝ }
 {
     if p.kind > 3 {
         return Integer {

@@ -1,6 +1,5 @@
 // Floats: from 0 up to 1, a chance, and a number of an interval.
-ghost use mathlib.Core.Path.{_≡_};
-ghost use Rattle.vrd_ffi.specs.FloatCalls.{number32, number64, coin, floatAt, doubleAt, boolAt, uniformAt};
+ghost use Rattle.vrd_ffi.specs.Promises.{FloatPromise, DoublePromise, BoolPromise, UniformPromise};
 use crate::boundary::Parts;
 use crate::boundary::engine;
 use crate::boundary::parts_with;
@@ -34,7 +33,7 @@ pub struct Coin {
 
 #[no_mangle]
 pub extern "C" fn vrd_float(p: Parts, mt: &mut [u32; 624]) -> Number32
-    ensures { λ r. ⌜ number32 r (now (mt .exit)) ≡ floatAt p (now (mt .entry)) ⌝ }
+    ensures { λ r. ⌜ FloatPromise p (now (mt .entry)) r (now (mt .exit)) ⌝ }
 {
     if p.kind > 3 {
         return Number32 {
@@ -55,7 +54,7 @@ pub extern "C" fn vrd_float(p: Parts, mt: &mut [u32; 624]) -> Number32
 
 #[no_mangle]
 pub extern "C" fn vrd_double(p: Parts, mt: &mut [u32; 624]) -> Number64
-    ensures { λ r. ⌜ number64 r (now (mt .exit)) ≡ doubleAt p (now (mt .entry)) ⌝ }
+    ensures { λ r. ⌜ DoublePromise p (now (mt .entry)) r (now (mt .exit)) ⌝ }
 {
     if p.kind > 3 {
         return Number64 {
@@ -76,7 +75,7 @@ pub extern "C" fn vrd_double(p: Parts, mt: &mut [u32; 624]) -> Number64
 
 #[no_mangle]
 pub extern "C" fn vrd_bool(p: Parts, mt: &mut [u32; 624], chance: f64) -> Coin
-    ensures { λ r. ⌜ coin r (now (mt .exit)) ≡ boolAt p (now (mt .entry)) chance ⌝ }
+    ensures { λ r. ⌜ BoolPromise p (now (mt .entry)) chance r (now (mt .exit)) ⌝ }
 {
     if p.kind > 3 {
         return Coin {
@@ -100,7 +99,7 @@ pub extern "C" fn vrd_bool(p: Parts, mt: &mut [u32; 624], chance: f64) -> Coin
 // A number or a refusal, as one struct: refused, the number is 0.
 #[no_mangle]
 pub extern "C" fn vrd_uniform(p: Parts, mt: &mut [u32; 624], low: f64, high: f64) -> Number64
-    ensures { λ r. ⌜ number64 r (now (mt .exit)) ≡ uniformAt p (now (mt .entry)) (record { low = low; high = high }) ⌝ }
+    ensures { λ r. ⌜ UniformPromise p (now (mt .entry)) low high r (now (mt .exit)) ⌝ }
 {
     if p.kind > 3 {
         return Number64 {

@@ -1,8 +1,8 @@
 // Numbers drawn within a budget of words, by value: each the call over a lent table, with the table that it leaves.
 ghost use mathlib.Core.Path.{_≡_};
-ghost use Rattle.vrd_ffi.specs.ByValue.{byValue};
-ghost use Rattle.vrd_ffi.specs.DrawCalls.{integer, boundedAt, randomRangeAt, charAt, uintAt, intAt};
-ghost use Rattle.vrd_ffi.specs.HeldDraws.{heldNumber, heldInteger};
+ghost use Rattle.vrd_ffi.specs.DrawCalls.{integer};
+ghost use Rattle.vrd_ffi.specs.HeldDraws.{heldInteger};
+ghost use Rattle.vrd_ffi.specs.PromisesByValue.{BoundedByValuePromise, RandomRangeByValuePromise, CharByValuePromise, UintByValuePromise, IntByValuePromise, RangeByValuePromise};
 use crate::boundary::Generator;
 use crate::draw_calls::Integer;
 use crate::draw_calls::vrd_bounded;
@@ -45,7 +45,7 @@ fn held_integer(a: Integer, table: [u32; 624]) -> HeldInteger
 
 #[no_mangle]
 pub extern "C" fn vrd_bounded_by_value(g: Generator, r: u32, budget: u32) -> HeldNumber
-    ensures { λ a. ⌜ heldNumber a ≡ byValue boundedAt g r budget ⌝ }
+    ensures { λ a. ⌜ BoundedByValuePromise g r budget a ⌝ }
 {
     let p = g.parts;
     let mut table = g.table;
@@ -67,7 +67,7 @@ pub extern "C" fn vrd_random_range_by_value(
     max: u32,
     budget: u32,
 ) -> HeldNumber
-    ensures { λ a. ⌜ heldNumber a ≡ byValue randomRangeAt g min max budget ⌝ }
+    ensures { λ a. ⌜ RandomRangeByValuePromise g min max budget a ⌝ }
 {
     let p = g.parts;
     let mut table = g.table;
@@ -84,7 +84,7 @@ pub extern "C" fn vrd_random_range_by_value(
 
 #[no_mangle]
 pub extern "C" fn vrd_char_by_value(g: Generator, budget: u32) -> HeldNumber
-    ensures { λ a. ⌜ heldNumber a ≡ byValue charAt g budget ⌝ }
+    ensures { λ a. ⌜ CharByValuePromise g budget a ⌝ }
 {
     let p = g.parts;
     let mut table = g.table;
@@ -101,7 +101,7 @@ pub extern "C" fn vrd_char_by_value(g: Generator, budget: u32) -> HeldNumber
 
 #[no_mangle]
 pub extern "C" fn vrd_uint_by_value(g: Generator, min: u32, max: u32, budget: u32) -> HeldNumber
-    ensures { λ a. ⌜ heldNumber a ≡ byValue uintAt g min max budget ⌝ }
+    ensures { λ a. ⌜ UintByValuePromise g min max budget a ⌝ }
 {
     let p = g.parts;
     let mut table = g.table;
@@ -118,7 +118,7 @@ pub extern "C" fn vrd_uint_by_value(g: Generator, min: u32, max: u32, budget: u3
 
 #[no_mangle]
 pub extern "C" fn vrd_int_by_value(g: Generator, min: i32, max: i32, budget: u32) -> HeldInteger
-    ensures { λ a. ⌜ heldInteger a ≡ byValue intAt g min max budget ⌝ }
+    ensures { λ a. ⌜ IntByValuePromise g min max budget a ⌝ }
 {
     let p = g.parts;
     let mut table = g.table;
@@ -129,7 +129,7 @@ pub extern "C" fn vrd_int_by_value(g: Generator, min: i32, max: i32, budget: u32
 // `vrd_int_by_value` by its other name.
 #[no_mangle]
 pub extern "C" fn vrd_range_by_value(g: Generator, min: i32, max: i32, budget: u32) -> HeldInteger
-    ensures { λ a. ⌜ heldInteger a ≡ byValue intAt g min max budget ⌝ }
+    ensures { λ a. ⌜ RangeByValuePromise g min max budget a ⌝ }
 {
     let p = g.parts;
     let mut table = g.table;

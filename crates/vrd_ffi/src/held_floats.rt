@@ -1,8 +1,5 @@
 // Floats by value: from 0 up to 1, a chance, and a number of an interval.
-ghost use mathlib.Core.Path.{_≡_};
-ghost use Rattle.vrd_ffi.specs.ByValue.{byValue};
-ghost use Rattle.vrd_ffi.specs.FloatCalls.{floatAt, doubleAt, boolAt, uniformAt};
-ghost use Rattle.vrd_ffi.specs.HeldFloats.{heldNumber32, heldNumber64, heldCoin};
+ghost use Rattle.vrd_ffi.specs.PromisesByValue.{FloatByValuePromise, DoubleByValuePromise, BoolByValuePromise, UniformByValuePromise};
 use crate::boundary::Generator;
 use crate::float_calls::vrd_bool;
 use crate::float_calls::vrd_double;
@@ -35,7 +32,7 @@ pub struct HeldCoin {
 
 #[no_mangle]
 pub extern "C" fn vrd_float_by_value(g: Generator) -> HeldNumber32
-    ensures { λ a. ⌜ heldNumber32 a ≡ byValue floatAt g ⌝ }
+    ensures { λ a. ⌜ FloatByValuePromise g a ⌝ }
 {
     let p = g.parts;
     let mut table = g.table;
@@ -51,7 +48,7 @@ pub extern "C" fn vrd_float_by_value(g: Generator) -> HeldNumber32
 
 #[no_mangle]
 pub extern "C" fn vrd_double_by_value(g: Generator) -> HeldNumber64
-    ensures { λ a. ⌜ heldNumber64 a ≡ byValue doubleAt g ⌝ }
+    ensures { λ a. ⌜ DoubleByValuePromise g a ⌝ }
 {
     let p = g.parts;
     let mut table = g.table;
@@ -67,7 +64,7 @@ pub extern "C" fn vrd_double_by_value(g: Generator) -> HeldNumber64
 
 #[no_mangle]
 pub extern "C" fn vrd_bool_by_value(g: Generator, chance: f64) -> HeldCoin
-    ensures { λ a. ⌜ heldCoin a ≡ byValue boolAt g chance ⌝ }
+    ensures { λ a. ⌜ BoolByValuePromise g chance a ⌝ }
 {
     let p = g.parts;
     let mut table = g.table;
@@ -84,7 +81,7 @@ pub extern "C" fn vrd_bool_by_value(g: Generator, chance: f64) -> HeldCoin
 
 #[no_mangle]
 pub extern "C" fn vrd_uniform_by_value(g: Generator, low: f64, high: f64) -> HeldNumber64
-    ensures { λ a. ⌜ heldNumber64 a ≡ byValue uniformAt g (record { low = low; high = high }) ⌝ }
+    ensures { λ a. ⌜ UniformByValuePromise g low high a ⌝ }
 {
     let p = g.parts;
     let mut table = g.table;

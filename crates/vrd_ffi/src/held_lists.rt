@@ -1,8 +1,5 @@
 // Lists and buffers of the caller's, the generator by value: an entry chosen, the start of a part, a list shuffled, bytes filled.
-ghost use mathlib.Core.Path.{_≡_};
-ghost use Rattle.vrd_ffi.specs.ByValue.{byValue};
-ghost use Rattle.vrd_ffi.specs.ListCalls.{chooseAt, randSliceAt, shuffleAt, fillBytesAt};
-ghost use Rattle.vrd_ffi.specs.HeldLists.{heldChosen, heldStarted, heldOrdered, heldFilled};
+ghost use Rattle.vrd_ffi.specs.PromisesByValue.{ChooseByValuePromise, RandSliceByValuePromise, ShuffleByValuePromise, FillBytesByValuePromise};
 use crate::boundary::Generator;
 use crate::held_state::HeldMoved;
 use crate::list_calls::vrd_choose;
@@ -39,7 +36,7 @@ pub struct HeldOrdered {
 
 #[no_mangle]
 pub extern "C" fn vrd_choose_by_value(g: Generator, list: &[u32], budget: u32) -> HeldChosen
-    ensures { λ a. ⌜ heldChosen a ≡ byValue chooseAt g (now (list .entry)) budget ⌝ }
+    ensures { λ a. ⌜ ChooseByValuePromise g (now (list .entry)) budget a ⌝ }
 {
     let p = g.parts;
     let mut table = g.table;
@@ -62,7 +59,7 @@ pub extern "C" fn vrd_rand_slice_by_value(
     window: usize,
     budget: u32,
 ) -> HeldStarted
-    ensures { λ a. ⌜ heldStarted a ≡ byValue randSliceAt g (now (list .entry)) window budget ⌝ }
+    ensures { λ a. ⌜ RandSliceByValuePromise g (now (list .entry)) window budget a ⌝ }
 {
     let p = g.parts;
     let mut table = g.table;
@@ -79,7 +76,7 @@ pub extern "C" fn vrd_rand_slice_by_value(
 
 #[no_mangle]
 pub extern "C" fn vrd_shuffle_by_value(g: Generator, list: &mut [u32], budget: u32) -> HeldOrdered
-    ensures { λ a. ⌜ heldOrdered a (now (list .exit)) ≡ byValue shuffleAt g (now (list .entry)) budget ⌝ }
+    ensures { λ a. ⌜ ShuffleByValuePromise g (now (list .entry)) budget a (now (list .exit)) ⌝ }
 {
     let p = g.parts;
     let mut table = g.table;
@@ -95,7 +92,7 @@ pub extern "C" fn vrd_shuffle_by_value(g: Generator, list: &mut [u32], budget: u
 
 #[no_mangle]
 pub extern "C" fn vrd_fill_bytes_by_value(g: Generator, dest: &mut [u8]) -> HeldMoved
-    ensures { λ a. ⌜ heldFilled a (now (dest .exit)) ≡ byValue fillBytesAt g (now (dest .entry)) ⌝ }
+    ensures { λ a. ⌜ FillBytesByValuePromise g (now (dest .entry)) a (now (dest .exit)) ⌝ }
 {
     let p = g.parts;
     let mut table = g.table;

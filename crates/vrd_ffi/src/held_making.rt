@@ -1,12 +1,8 @@
 // Making a generator by value: of a kind number and a byte seed, and by each kind's own call. Parts set by hand are the struct itself.
 ghost use mathlib.Core.Path.{_≡_};
-ghost use Rattle.wrapping.specs.Wide.{value};
-ghost use Rattle.making.specs.Make.{ofXoshiro, ofTwister, ofPcg32, ofPcg64, madeBytes};
 ghost use Rattle.mersenne_twister.specs.Table as twister;
-ghost use Rattle.pcg.specs.Pcg32 as pcg32;
-ghost use Rattle.pcg.specs.Pcg64 as pcg64;
-ghost use Rattle.xoshiro.specs.Seed as xoshiro;
-ghost use Rattle.vrd_ffi.specs.HeldMaking.{generatorFrom, heldMade};
+ghost use Rattle.vrd_ffi.specs.HeldMaking.{generatorFrom};
+ghost use Rattle.vrd_ffi.specs.PromisesByValue.{MakeByValuePromise, XoshiroWithSeedByValuePromise, MersenneTwisterWithSeedByValuePromise, Pcg32WithSeedByValuePromise, Pcg64WithSeedByValuePromise, Pcg32WithStreamByValuePromise, Pcg64WithStreamByValuePromise};
 use crate::boundary::Generator;
 use crate::making_calls::parts_of;
 use random::Random;
@@ -30,7 +26,7 @@ fn generator_from(g: Random) -> Generator
 
 #[no_mangle]
 pub extern "C" fn vrd_make_by_value(kind: u32, seed: &[u8]) -> HeldMade
-    ensures { λ r. ⌜ r ≡ heldMade (madeBytes kind (now (seed .entry))) ⌝ }
+    ensures { λ r. ⌜ MakeByValuePromise kind (now (seed .entry)) r ⌝ }
 {
     let m = making::make(kind, seed);
     let g = m.generator;
@@ -43,42 +39,42 @@ pub extern "C" fn vrd_make_by_value(kind: u32, seed: &[u8]) -> HeldMade
 
 #[no_mangle]
 pub extern "C" fn vrd_xoshiro_with_seed_by_value(seed: u64) -> Generator
-    ensures { λ r. ⌜ r ≡ generatorFrom (ofXoshiro (xoshiro.seeded seed)) ⌝ }
+    ensures { λ r. ⌜ XoshiroWithSeedByValuePromise seed r ⌝ }
 {
     generator_from(making::from_u64_seed(seed))
 }
 
 #[no_mangle]
 pub extern "C" fn vrd_mersenne_twister_with_seed_by_value(seed: u32) -> Generator
-    ensures { λ r. ⌜ r ≡ generatorFrom (ofTwister (twister.seeded seed)) ⌝ }
+    ensures { λ r. ⌜ MersenneTwisterWithSeedByValuePromise seed r ⌝ }
 {
     generator_from(making::new_mersenne_twister_with_seed(seed))
 }
 
 #[no_mangle]
 pub extern "C" fn vrd_pcg32_with_seed_by_value(seed: u64) -> Generator
-    ensures { λ r. ⌜ r ≡ generatorFrom (ofPcg32 (pcg32.seeded seed pcg32.defaultStream)) ⌝ }
+    ensures { λ r. ⌜ Pcg32WithSeedByValuePromise seed r ⌝ }
 {
     generator_from(making::new_pcg32_with_seed(seed))
 }
 
 #[no_mangle]
 pub extern "C" fn vrd_pcg64_with_seed_by_value(seed: Wide) -> Generator
-    ensures { λ r. ⌜ r ≡ generatorFrom (ofPcg64 (pcg64.seeded (value seed) pcg64.defaultStream)) ⌝ }
+    ensures { λ r. ⌜ Pcg64WithSeedByValuePromise seed r ⌝ }
 {
     generator_from(making::new_pcg64_with_seed(seed))
 }
 
 #[no_mangle]
 pub extern "C" fn vrd_pcg32_with_stream_by_value(seed: u64, stream: u64) -> Generator
-    ensures { λ r. ⌜ r ≡ generatorFrom (ofPcg32 (pcg32.seeded seed stream)) ⌝ }
+    ensures { λ r. ⌜ Pcg32WithStreamByValuePromise seed stream r ⌝ }
 {
     generator_from(making::new_pcg32_with_stream(seed, stream))
 }
 
 #[no_mangle]
 pub extern "C" fn vrd_pcg64_with_stream_by_value(seed: Wide, stream: Wide) -> Generator
-    ensures { λ r. ⌜ r ≡ generatorFrom (ofPcg64 (pcg64.seeded (value seed) (value stream))) ⌝ }
+    ensures { λ r. ⌜ Pcg64WithStreamByValuePromise seed stream r ⌝ }
 {
     generator_from(making::new_pcg64_with_stream(seed, stream))
 }

@@ -1,8 +1,5 @@
 // The generator's state by value: seeded anew, split, the twister's position and twist, and equality of two generators.
-ghost use mathlib.Core.Path.{_≡_};
-ghost use Rattle.vrd_ffi.specs.ByValue.{byValue};
-ghost use Rattle.vrd_ffi.specs.StateCalls.{seedAt, twistAt, placed, mtiAt, Same};
-ghost use Rattle.vrd_ffi.specs.HeldState.{heldMoved, setMtiHeld, heldDivided, splitHeld};
+ghost use Rattle.vrd_ffi.specs.PromisesByValue.{SeedByValuePromise, TwistByValuePromise, SetMtiByValuePromise, MtiByValuePromise, SplitByValuePromise, SameByValuePromise};
 use crate::boundary::Generator;
 use crate::state_calls::Equality;
 use crate::state_calls::Position;
@@ -31,7 +28,7 @@ pub struct HeldDivided {
 
 #[no_mangle]
 pub extern "C" fn vrd_seed_by_value(g: Generator, seed: u32) -> HeldMoved
-    ensures { λ a. ⌜ heldMoved a ≡ byValue seedAt g seed ⌝ }
+    ensures { λ a. ⌜ SeedByValuePromise g seed a ⌝ }
 {
     let p = g.parts;
     let mut table = g.table;
@@ -46,7 +43,7 @@ pub extern "C" fn vrd_seed_by_value(g: Generator, seed: u32) -> HeldMoved
 
 #[no_mangle]
 pub extern "C" fn vrd_twist_by_value(g: Generator) -> HeldMoved
-    ensures { λ a. ⌜ heldMoved a ≡ byValue twistAt g ⌝ }
+    ensures { λ a. ⌜ TwistByValuePromise g a ⌝ }
 {
     let p = g.parts;
     let mut table = g.table;
@@ -61,7 +58,7 @@ pub extern "C" fn vrd_twist_by_value(g: Generator) -> HeldMoved
 
 #[no_mangle]
 pub extern "C" fn vrd_set_mti_by_value(g: Generator, value: u32) -> HeldMoved
-    ensures { λ a. ⌜ heldMoved a ≡ byValue setMtiHeld g value ⌝ }
+    ensures { λ a. ⌜ SetMtiByValuePromise g value a ⌝ }
 {
     let p = g.parts;
     let table = g.table;
@@ -76,7 +73,7 @@ pub extern "C" fn vrd_set_mti_by_value(g: Generator, value: u32) -> HeldMoved
 
 #[no_mangle]
 pub extern "C" fn vrd_mti_by_value(g: Generator) -> Position
-    ensures { λ a. ⌜ placed a ≡ mtiAt (g .parts) ⌝ }
+    ensures { λ a. ⌜ MtiByValuePromise g a ⌝ }
 {
     let p = g.parts;
     vrd_mti(p)
@@ -84,7 +81,7 @@ pub extern "C" fn vrd_mti_by_value(g: Generator) -> Position
 
 #[no_mangle]
 pub extern "C" fn vrd_split_by_value(g: Generator) -> HeldDivided
-    ensures { λ a. ⌜ heldDivided a ≡ byValue splitHeld g ⌝ }
+    ensures { λ a. ⌜ SplitByValuePromise g a ⌝ }
 {
     let p = g.parts;
     let table = g.table;
@@ -116,7 +113,7 @@ pub extern "C" fn vrd_split_by_value(g: Generator) -> HeldDivided
 
 #[no_mangle]
 pub extern "C" fn vrd_same_by_value(g: Generator, other: Generator) -> Equality
-    ensures { λ a. ⌜ Same a (g .parts) (g .table) (other .parts) (other .table) ⌝ }
+    ensures { λ a. ⌜ SameByValuePromise g other a ⌝ }
 {
     let p = g.parts;
     let q = other.parts;

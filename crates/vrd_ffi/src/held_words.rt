@@ -1,8 +1,5 @@
 // Words as they come, by value: of 32 bits, of 64, of 64 read as signed, and 32 words XORed.
-ghost use mathlib.Core.Path.{_≡_};
-ghost use Rattle.vrd_ffi.specs.ByValue.{byValue};
-ghost use Rattle.vrd_ffi.specs.WordCalls.{randAt, u64At, i64At, pseudoAt};
-ghost use Rattle.vrd_ffi.specs.HeldWords.{heldWord32, heldWord64, heldSigned64};
+ghost use Rattle.vrd_ffi.specs.PromisesByValue.{RandByValuePromise, U64ByValuePromise, I64ByValuePromise, PseudoByValuePromise};
 use crate::boundary::Generator;
 use crate::word_calls::vrd_i64;
 use crate::word_calls::vrd_pseudo;
@@ -35,7 +32,7 @@ pub struct HeldSigned64 {
 
 #[no_mangle]
 pub extern "C" fn vrd_rand_by_value(g: Generator) -> HeldWord32
-    ensures { λ a. ⌜ heldWord32 a ≡ byValue randAt g ⌝ }
+    ensures { λ a. ⌜ RandByValuePromise g a ⌝ }
 {
     let p = g.parts;
     let mut table = g.table;
@@ -51,7 +48,7 @@ pub extern "C" fn vrd_rand_by_value(g: Generator) -> HeldWord32
 
 #[no_mangle]
 pub extern "C" fn vrd_u64_by_value(g: Generator) -> HeldWord64
-    ensures { λ a. ⌜ heldWord64 a ≡ byValue u64At g ⌝ }
+    ensures { λ a. ⌜ U64ByValuePromise g a ⌝ }
 {
     let p = g.parts;
     let mut table = g.table;
@@ -67,7 +64,7 @@ pub extern "C" fn vrd_u64_by_value(g: Generator) -> HeldWord64
 
 #[no_mangle]
 pub extern "C" fn vrd_i64_by_value(g: Generator) -> HeldSigned64
-    ensures { λ a. ⌜ heldSigned64 a ≡ byValue i64At g ⌝ }
+    ensures { λ a. ⌜ I64ByValuePromise g a ⌝ }
 {
     let p = g.parts;
     let mut table = g.table;
@@ -83,7 +80,7 @@ pub extern "C" fn vrd_i64_by_value(g: Generator) -> HeldSigned64
 
 #[no_mangle]
 pub extern "C" fn vrd_pseudo_by_value(g: Generator) -> HeldWord32
-    ensures { λ a. ⌜ heldWord32 a ≡ byValue pseudoAt g ⌝ }
+    ensures { λ a. ⌜ PseudoByValuePromise g a ⌝ }
 {
     let p = g.parts;
     let mut table = g.table;

@@ -1,5 +1,6 @@
-// The facade generator for Rust and C: each call over a lent table, with the generator's small words by value. Kinds and refusals are
-// numbers. A kind above 3 is refused with 10 before anything else is looked at, and everything stays as it came.
+// The facade generator for Rust and C: each call over a lent table, with the generator's small words by value; and each call by value
+// (`.._by_value`), with a generator that holds its table. Kinds and refusals are numbers. A kind above 3 is refused with 10 before anything
+// else is looked at, and everything stays as it came.
 mod boundary;
 mod draw_calls;
 mod float_calls;

@@ -1,6 +1,5 @@
 // Lists and buffers of the caller's: an entry chosen, the start of a part, a list shuffled, bytes filled.
-ghost use mathlib.Core.Path.{_≡_};
-ghost use Rattle.vrd_ffi.specs.ListCalls.{chosen, started, ordered, filled, chooseAt, randSliceAt, shuffleAt, fillBytesAt};
+ghost use Rattle.vrd_ffi.specs.Promises.{ChoosePromise, RandSlicePromise, ShufflePromise, FillBytesPromise};
 use crate::boundary::Parts;
 use crate::boundary::engine;
 use crate::boundary::parts_with;
@@ -36,7 +35,7 @@ pub struct Ordered {
 
 #[no_mangle]
 pub extern "C" fn vrd_choose(p: Parts, mt: &mut [u32; 624], list: &[u32], budget: u32) -> Chosen
-    ensures { λ a. ⌜ chosen a (now (mt .exit)) ≡ chooseAt p (now (mt .entry)) (now (list .entry)) budget ⌝ }
+    ensures { λ a. ⌜ ChoosePromise p (now (mt .entry)) (now (list .entry)) budget a (now (mt .exit)) ⌝ }
 {
     if p.kind > 3 {
         return Chosen {
@@ -67,7 +66,7 @@ pub extern "C" fn vrd_rand_slice(
     window: usize,
     budget: u32,
 ) -> Started
-    ensures { λ a. ⌜ started a (now (mt .exit)) ≡ randSliceAt p (now (mt .entry)) (now (list .entry)) window budget ⌝ }
+    ensures { λ a. ⌜ RandSlicePromise p (now (mt .entry)) (now (list .entry)) window budget a (now (mt .exit)) ⌝ }
 {
     if p.kind > 3 {
         return Started {
@@ -95,7 +94,7 @@ pub extern "C" fn vrd_shuffle(
     list: &mut [u32],
     budget: u32,
 ) -> Ordered
-    ensures { λ a. ⌜ ordered a (now (mt .exit)) (now (list .exit)) ≡ shuffleAt p (now (mt .entry)) (now (list .entry)) budget ⌝ }
+    ensures { λ a. ⌜ ShufflePromise p (now (mt .entry)) (now (list .entry)) budget a (now (mt .exit)) (now (list .exit)) ⌝ }
 {
     if p.kind > 3 {
         return Ordered {
@@ -116,7 +115,7 @@ pub extern "C" fn vrd_shuffle(
 
 #[no_mangle]
 pub extern "C" fn vrd_fill_bytes(p: Parts, mt: &mut [u32; 624], dest: &mut [u8]) -> Moved
-    ensures { λ r. ⌜ filled r (now (mt .exit)) (now (dest .exit)) ≡ fillBytesAt p (now (mt .entry)) (now (dest .entry)) ⌝ }
+    ensures { λ r. ⌜ FillBytesPromise p (now (mt .entry)) (now (dest .entry)) r (now (mt .exit)) (now (dest .exit)) ⌝ }
 {
     if p.kind > 3 {
         return Moved {

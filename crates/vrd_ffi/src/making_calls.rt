@@ -1,13 +1,8 @@
 // Making a generator: of a kind number and a byte seed, which is refused with 10 and then 11, and by each kind's own call, which refuses
 // nothing. Parts set by hand need no call. What a kind does not use is zeros.
 ghost use mathlib.Core.Path.{_≡_};
-ghost use Rattle.wrapping.specs.Wide.{value};
-ghost use Rattle.making.specs.Make.{ofXoshiro, ofPcg32, ofPcg64};
-ghost use Rattle.pcg.specs.Pcg32 as pcg32;
-ghost use Rattle.pcg.specs.Pcg64 as pcg64;
-ghost use Rattle.xoshiro.specs.Seed as xoshiro;
-ghost use Rattle.vrd_ffi.specs.Boundary.{generatorOf};
-ghost use Rattle.vrd_ffi.specs.MakingCalls.{partsOf, madeOf, made, makeAt, twisterIn};
+ghost use Rattle.vrd_ffi.specs.MakingCalls.{partsOf, madeOf};
+ghost use Rattle.vrd_ffi.specs.Promises.{MakePromise, MersenneTwisterWithSeedPromise, XoshiroWithSeedPromise, Pcg32WithSeedPromise, Pcg64WithSeedPromise, Pcg32WithStreamPromise, Pcg64WithStreamPromise};
 use crate::boundary::Parts;
 use crate::boundary::parts_with;
 use crate::boundary::zero_parts;
@@ -47,7 +42,7 @@ fn made_of(m: making::Made) -> Made
 // Kind 1 has its table in the caller's; every other making leaves that as it came.
 #[no_mangle]
 pub extern "C" fn vrd_make(kind: u32, seed: &[u8], mt: &mut [u32; 624]) -> Made
-    ensures { λ r. ⌜ made r (now (mt .exit)) ≡ makeAt kind (now (seed .entry)) (now (mt .entry)) ⌝ }
+    ensures { λ r. ⌜ MakePromise kind (now (seed .entry)) (now (mt .entry)) r (now (mt .exit)) ⌝ }
 {
     let m = making::make(kind, seed);
     let answer = made_of(m);
@@ -63,7 +58,7 @@ pub extern "C" fn vrd_make(kind: u32, seed: &[u8], mt: &mut [u32; 624]) -> Made
 
 #[no_mangle]
 pub extern "C" fn vrd_mersenne_twister_with_seed(seed: u32, mt: &mut [u32; 624]) -> Parts
-    ensures { λ r. ⌜ generatorOf r (now (mt .exit)) ≡ twisterIn (now (mt .entry)) seed ⌝ }
+    ensures { λ r. ⌜ MersenneTwisterWithSeedPromise seed (now (mt .entry)) r (now (mt .exit)) ⌝ }
 {
     let at = mersenne_twister::seed_in(mt, seed);
     let e = engine_with(Backend::MersenneTwister, at);
@@ -72,35 +67,35 @@ pub extern "C" fn vrd_mersenne_twister_with_seed(seed: u32, mt: &mut [u32; 624])
 
 #[no_mangle]
 pub extern "C" fn vrd_xoshiro_with_seed(seed: u64) -> Parts
-    ensures { λ r. ⌜ r ≡ partsOf (ofXoshiro (xoshiro.seeded seed)) ⌝ }
+    ensures { λ r. ⌜ XoshiroWithSeedPromise seed r ⌝ }
 {
     parts_of(making::from_u64_seed(seed))
 }
 
 #[no_mangle]
 pub extern "C" fn vrd_pcg32_with_seed(seed: u64) -> Parts
-    ensures { λ r. ⌜ r ≡ partsOf (ofPcg32 (pcg32.seeded seed pcg32.defaultStream)) ⌝ }
+    ensures { λ r. ⌜ Pcg32WithSeedPromise seed r ⌝ }
 {
     parts_of(making::new_pcg32_with_seed(seed))
 }
 
 #[no_mangle]
 pub extern "C" fn vrd_pcg64_with_seed(seed: Wide) -> Parts
-    ensures { λ r. ⌜ r ≡ partsOf (ofPcg64 (pcg64.seeded (value seed) pcg64.defaultStream)) ⌝ }
+    ensures { λ r. ⌜ Pcg64WithSeedPromise seed r ⌝ }
 {
     parts_of(making::new_pcg64_with_seed(seed))
 }
 
 #[no_mangle]
 pub extern "C" fn vrd_pcg32_with_stream(seed: u64, stream: u64) -> Parts
-    ensures { λ r. ⌜ r ≡ partsOf (ofPcg32 (pcg32.seeded seed stream)) ⌝ }
+    ensures { λ r. ⌜ Pcg32WithStreamPromise seed stream r ⌝ }
 {
     parts_of(making::new_pcg32_with_stream(seed, stream))
 }
 
 #[no_mangle]
 pub extern "C" fn vrd_pcg64_with_stream(seed: Wide, stream: Wide) -> Parts
-    ensures { λ r. ⌜ r ≡ partsOf (ofPcg64 (pcg64.seeded (value seed) (value stream))) ⌝ }
+    ensures { λ r. ⌜ Pcg64WithStreamPromise seed stream r ⌝ }
 {
     parts_of(making::new_pcg64_with_stream(seed, stream))
 }

@@ -1,6 +1,5 @@
 // The generator's state: seeded anew, split, the twister's position and twist, and equality of two generators.
-ghost use mathlib.Core.Path.{_≡_};
-ghost use Rattle.vrd_ffi.specs.StateCalls.{moved, unlent, divided, placed, seedAt, setMtiAt, twistAt, splitAt, mtiAt, Same};
+ghost use Rattle.vrd_ffi.specs.Promises.{SeedPromise, TwistPromise, SetMtiPromise, MtiPromise, SplitPromise, SamePromise};
 use crate::boundary::Parts;
 use crate::boundary::engine;
 use crate::boundary::parts_with;
@@ -38,7 +37,7 @@ pub struct Equality {
 
 #[no_mangle]
 pub extern "C" fn vrd_seed(p: Parts, mt: &mut [u32; 624], seed: u32) -> Moved
-    ensures { λ r. ⌜ moved r (now (mt .exit)) ≡ seedAt p (now (mt .entry)) seed ⌝ }
+    ensures { λ r. ⌜ SeedPromise p (now (mt .entry)) seed r (now (mt .exit)) ⌝ }
 {
     if p.kind > 3 {
         return Moved {
@@ -56,7 +55,7 @@ pub extern "C" fn vrd_seed(p: Parts, mt: &mut [u32; 624], seed: u32) -> Moved
 
 #[no_mangle]
 pub extern "C" fn vrd_twist(p: Parts, mt: &mut [u32; 624]) -> Moved
-    ensures { λ r. ⌜ moved r (now (mt .exit)) ≡ twistAt p (now (mt .entry)) ⌝ }
+    ensures { λ r. ⌜ TwistPromise p (now (mt .entry)) r (now (mt .exit)) ⌝ }
 {
     if p.kind > 3 {
         return Moved {
@@ -74,7 +73,7 @@ pub extern "C" fn vrd_twist(p: Parts, mt: &mut [u32; 624]) -> Moved
 
 #[no_mangle]
 pub extern "C" fn vrd_set_mti(p: Parts, value: u32) -> Moved
-    ensures { λ r. ⌜ unlent r ≡ setMtiAt p value ⌝ }
+    ensures { λ r. ⌜ SetMtiPromise p value r ⌝ }
 {
     if p.kind > 3 {
         return Moved {
@@ -92,7 +91,7 @@ pub extern "C" fn vrd_set_mti(p: Parts, value: u32) -> Moved
 
 #[no_mangle]
 pub extern "C" fn vrd_mti(p: Parts) -> Position
-    ensures { λ r. ⌜ placed r ≡ mtiAt p ⌝ }
+    ensures { λ r. ⌜ MtiPromise p r ⌝ }
 {
     if p.kind > 3 {
         return Position {
@@ -109,7 +108,7 @@ pub extern "C" fn vrd_mti(p: Parts) -> Position
 
 #[no_mangle]
 pub extern "C" fn vrd_split(p: Parts) -> Divided
-    ensures { λ r. ⌜ divided r ≡ splitAt p ⌝ }
+    ensures { λ r. ⌜ SplitPromise p r ⌝ }
 {
     if p.kind > 3 {
         let child = zero_parts();
@@ -133,7 +132,7 @@ pub extern "C" fn vrd_split(p: Parts) -> Divided
 
 #[no_mangle]
 pub extern "C" fn vrd_same(p: Parts, mt: &[u32; 624], q: Parts, other: &[u32; 624]) -> Equality
-    ensures { λ r. ⌜ Same r p (now (mt .entry)) q (now (other .entry)) ⌝ }
+    ensures { λ r. ⌜ SamePromise p (now (mt .entry)) q (now (other .entry)) r ⌝ }
 {
     if p.kind > 3 {
         return Equality {

@@ -1,6 +1,5 @@
 // Words as they come: of 32 bits, of 64, of 64 read as signed, and 32 words XORed.
-ghost use mathlib.Core.Path.{_≡_};
-ghost use Rattle.vrd_ffi.specs.WordCalls.{word32, word64, signed64, randAt, u64At, i64At, pseudoAt};
+ghost use Rattle.vrd_ffi.specs.Promises.{RandPromise, U64Promise, I64Promise, PseudoPromise};
 use crate::boundary::Parts;
 use crate::boundary::engine;
 use crate::boundary::parts_with;
@@ -32,7 +31,7 @@ pub struct Signed64 {
 
 #[no_mangle]
 pub extern "C" fn vrd_rand(p: Parts, mt: &mut [u32; 624]) -> Word32
-    ensures { λ r. ⌜ word32 r (now (mt .exit)) ≡ randAt p (now (mt .entry)) ⌝ }
+    ensures { λ r. ⌜ RandPromise p (now (mt .entry)) r (now (mt .exit)) ⌝ }
 {
     if p.kind > 3 {
         return Word32 {
@@ -53,7 +52,7 @@ pub extern "C" fn vrd_rand(p: Parts, mt: &mut [u32; 624]) -> Word32
 
 #[no_mangle]
 pub extern "C" fn vrd_u64(p: Parts, mt: &mut [u32; 624]) -> Word64
-    ensures { λ r. ⌜ word64 r (now (mt .exit)) ≡ u64At p (now (mt .entry)) ⌝ }
+    ensures { λ r. ⌜ U64Promise p (now (mt .entry)) r (now (mt .exit)) ⌝ }
 {
     if p.kind > 3 {
         return Word64 {
@@ -74,7 +73,7 @@ pub extern "C" fn vrd_u64(p: Parts, mt: &mut [u32; 624]) -> Word64
 
 #[no_mangle]
 pub extern "C" fn vrd_i64(p: Parts, mt: &mut [u32; 624]) -> Signed64
-    ensures { λ r. ⌜ signed64 r (now (mt .exit)) ≡ i64At p (now (mt .entry)) ⌝ }
+    ensures { λ r. ⌜ I64Promise p (now (mt .entry)) r (now (mt .exit)) ⌝ }
 {
     if p.kind > 3 {
         return Signed64 {
@@ -96,7 +95,7 @@ pub extern "C" fn vrd_i64(p: Parts, mt: &mut [u32; 624]) -> Signed64
 
 #[no_mangle]
 pub extern "C" fn vrd_pseudo(p: Parts, mt: &mut [u32; 624]) -> Word32
-    ensures { λ r. ⌜ word32 r (now (mt .exit)) ≡ pseudoAt p (now (mt .entry)) ⌝ }
+    ensures { λ r. ⌜ PseudoPromise p (now (mt .entry)) r (now (mt .exit)) ⌝ }
 {
     if p.kind > 3 {
         return Word32 {

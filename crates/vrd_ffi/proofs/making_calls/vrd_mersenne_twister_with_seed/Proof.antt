@@ -4,7 +4,7 @@ use borrow.Author.Needs.{needs}
 use Rattle.mersenne_twister.specs.declared.MersenneTwister as twister
 use Rattle.random.specs.Generator.{gen}
 use Rattle.random.specs.declared.backend.Backend.the-variants.{MersenneTwister}
-use Rattle.vrd_ffi.specs.MakingCallsLaws.{generator-made}
+use Rattle.vrd_ffi.specs.AnswersLaws.{becomes}
 use Rattle.vrd_ffi.proofs.making_calls.vrd_mersenne_twister_with_seed.Statement.{statement}
 use Rattle.vrd_ffi.proofs.making_calls.vrd_mersenne_twister_with_seed.Tie as tie
 
@@ -24,7 +24,7 @@ returns : tie.Need-returns
 returns c =
     let seeded = c .before .before .before in
     rw (c .parts-with .ensures, c .before .zero-parts .ensures, c .before .before .engine-with .ensures)
-    (generator-made _ _ _ (ap (λ (x : twister.MersenneTwister). gen MersenneTwister x) (seeded .seed-in .ensures)))
+    (becomes _ _ _ _ _ (ap (λ (x : twister.MersenneTwister). gen MersenneTwister x) (seeded .seed-in .ensures)))
 
 pub vrd-mersenne-twister-with-seed-spec : {M : Type 1} → statement M
 vrd-mersenne-twister-with-seed-spec =
