@@ -1,10 +1,11 @@
 // Numbers drawn within a budget of words, by value: each the call over a lent table, with the table that it leaves.
 ghost use mathlib.Core.Path.{_≡_};
-ghost use Rattle.vrd_ffi.specs.DrawCalls.{integer};
-ghost use Rattle.vrd_ffi.specs.HeldDraws.{heldInteger};
+ghost use Rattle.vrd_ffi.specs.DrawCalls.{number, integer};
+ghost use Rattle.vrd_ffi.specs.HeldDraws.{heldNumber, heldInteger};
 ghost use Rattle.vrd_ffi.specs.PromisesByValue.{BoundedByValuePromise, RandomRangeByValuePromise, CharByValuePromise, UintByValuePromise, IntByValuePromise, RangeByValuePromise};
 use crate::boundary::Generator;
 use crate::draw_calls::Integer;
+use crate::draw_calls::Number;
 use crate::draw_calls::vrd_bounded;
 use crate::draw_calls::vrd_char;
 use crate::draw_calls::vrd_int;
@@ -30,6 +31,21 @@ pub struct HeldInteger {
     pub next: Generator,
 }
 
+// What the lent call answered, with the table that it left.
+fn held_number(a: Number, table: [u32; 624]) -> HeldNumber
+    ensures { λ r. ⌜ heldNumber r ≡ number a table ⌝ }
+{
+    let parts = a.next;
+    let next = Generator { parts, table };
+    HeldNumber {
+        refusal: a.refusal,
+        value: a.value,
+        used: a.used,
+        next,
+    }
+}
+
+// The same of a signed number.
 fn held_integer(a: Integer, table: [u32; 624]) -> HeldInteger
     ensures { λ r. ⌜ heldInteger r ≡ integer a table ⌝ }
 {
@@ -50,14 +66,7 @@ pub extern "C" fn vrd_bounded_by_value(g: Generator, r: u32, budget: u32) -> Hel
     let p = g.parts;
     let mut table = g.table;
     let a = vrd_bounded(p, &mut table, r, budget);
-    let parts = a.next;
-    let next = Generator { parts, table };
-    HeldNumber {
-        refusal: a.refusal,
-        value: a.value,
-        used: a.used,
-        next,
-    }
+    held_number(a, table)
 }
 
 #[no_mangle]
@@ -72,14 +81,7 @@ pub extern "C" fn vrd_random_range_by_value(
     let p = g.parts;
     let mut table = g.table;
     let a = vrd_random_range(p, &mut table, min, max, budget);
-    let parts = a.next;
-    let next = Generator { parts, table };
-    HeldNumber {
-        refusal: a.refusal,
-        value: a.value,
-        used: a.used,
-        next,
-    }
+    held_number(a, table)
 }
 
 #[no_mangle]
@@ -89,14 +91,7 @@ pub extern "C" fn vrd_char_by_value(g: Generator, budget: u32) -> HeldNumber
     let p = g.parts;
     let mut table = g.table;
     let a = vrd_char(p, &mut table, budget);
-    let parts = a.next;
-    let next = Generator { parts, table };
-    HeldNumber {
-        refusal: a.refusal,
-        value: a.value,
-        used: a.used,
-        next,
-    }
+    held_number(a, table)
 }
 
 #[no_mangle]
@@ -106,14 +101,7 @@ pub extern "C" fn vrd_uint_by_value(g: Generator, min: u32, max: u32, budget: u3
     let p = g.parts;
     let mut table = g.table;
     let a = vrd_uint(p, &mut table, min, max, budget);
-    let parts = a.next;
-    let next = Generator { parts, table };
-    HeldNumber {
-        refusal: a.refusal,
-        value: a.value,
-        used: a.used,
-        next,
-    }
+    held_number(a, table)
 }
 
 #[no_mangle]

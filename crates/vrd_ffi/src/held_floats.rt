@@ -1,6 +1,10 @@
 // Floats by value: from 0 up to 1, a chance, and a number of an interval.
+ghost use mathlib.Core.Path.{_≡_};
+ghost use Rattle.vrd_ffi.specs.FloatCalls.{number64};
+ghost use Rattle.vrd_ffi.specs.HeldFloats.{heldNumber64};
 ghost use Rattle.vrd_ffi.specs.PromisesByValue.{FloatByValuePromise, DoubleByValuePromise, BoolByValuePromise, UniformByValuePromise};
 use crate::boundary::Generator;
+use crate::float_calls::Number64;
 use crate::float_calls::vrd_bool;
 use crate::float_calls::vrd_double;
 use crate::float_calls::vrd_float;
@@ -30,6 +34,19 @@ pub struct HeldCoin {
     pub next: Generator,
 }
 
+// What the lent call answered, with the table that it left.
+fn held_number64(a: Number64, table: [u32; 624]) -> HeldNumber64
+    ensures { λ r. ⌜ heldNumber64 r ≡ number64 a table ⌝ }
+{
+    let parts = a.next;
+    let next = Generator { parts, table };
+    HeldNumber64 {
+        refusal: a.refusal,
+        value: a.value,
+        next,
+    }
+}
+
 #[no_mangle]
 pub extern "C" fn vrd_float_by_value(g: Generator) -> HeldNumber32
     ensures { λ a. ⌜ FloatByValuePromise g a ⌝ }
@@ -53,13 +70,7 @@ pub extern "C" fn vrd_double_by_value(g: Generator) -> HeldNumber64
     let p = g.parts;
     let mut table = g.table;
     let a = vrd_double(p, &mut table);
-    let parts = a.next;
-    let next = Generator { parts, table };
-    HeldNumber64 {
-        refusal: a.refusal,
-        value: a.value,
-        next,
-    }
+    held_number64(a, table)
 }
 
 #[no_mangle]
@@ -86,11 +97,5 @@ pub extern "C" fn vrd_uniform_by_value(g: Generator, low: f64, high: f64) -> Hel
     let p = g.parts;
     let mut table = g.table;
     let a = vrd_uniform(p, &mut table, low, high);
-    let parts = a.next;
-    let next = Generator { parts, table };
-    HeldNumber64 {
-        refusal: a.refusal,
-        value: a.value,
-        next,
-    }
+    held_number64(a, table)
 }

@@ -1,7 +1,11 @@
 // The generator's state by value: seeded anew, split, the twister's position and twist, and equality of two generators.
+ghost use mathlib.Core.Path.{_≡_};
+ghost use Rattle.vrd_ffi.specs.StateCalls.{moved};
+ghost use Rattle.vrd_ffi.specs.HeldState.{heldMoved};
 ghost use Rattle.vrd_ffi.specs.PromisesByValue.{SeedByValuePromise, TwistByValuePromise, SetMtiByValuePromise, MtiByValuePromise, SplitByValuePromise, SameByValuePromise};
 use crate::boundary::Generator;
 use crate::state_calls::Equality;
+use crate::state_calls::Moved;
 use crate::state_calls::Position;
 use crate::state_calls::vrd_mti;
 use crate::state_calls::vrd_same;
@@ -26,6 +30,18 @@ pub struct HeldDivided {
     pub child: Generator,
 }
 
+// What the lent call answered, with the table that it left.
+fn held_moved(a: Moved, table: [u32; 624]) -> HeldMoved
+    ensures { λ r. ⌜ heldMoved r ≡ moved a table ⌝ }
+{
+    let parts = a.next;
+    let next = Generator { parts, table };
+    HeldMoved {
+        refusal: a.refusal,
+        next,
+    }
+}
+
 #[no_mangle]
 pub extern "C" fn vrd_seed_by_value(g: Generator, seed: u32) -> HeldMoved
     ensures { λ a. ⌜ SeedByValuePromise g seed a ⌝ }
@@ -33,12 +49,7 @@ pub extern "C" fn vrd_seed_by_value(g: Generator, seed: u32) -> HeldMoved
     let p = g.parts;
     let mut table = g.table;
     let a = vrd_seed(p, &mut table, seed);
-    let parts = a.next;
-    let next = Generator { parts, table };
-    HeldMoved {
-        refusal: a.refusal,
-        next,
-    }
+    held_moved(a, table)
 }
 
 #[no_mangle]
@@ -48,12 +59,7 @@ pub extern "C" fn vrd_twist_by_value(g: Generator) -> HeldMoved
     let p = g.parts;
     let mut table = g.table;
     let a = vrd_twist(p, &mut table);
-    let parts = a.next;
-    let next = Generator { parts, table };
-    HeldMoved {
-        refusal: a.refusal,
-        next,
-    }
+    held_moved(a, table)
 }
 
 #[no_mangle]
@@ -63,12 +69,7 @@ pub extern "C" fn vrd_set_mti_by_value(g: Generator, value: u32) -> HeldMoved
     let p = g.parts;
     let table = g.table;
     let a = vrd_set_mti(p, value);
-    let parts = a.next;
-    let next = Generator { parts, table };
-    HeldMoved {
-        refusal: a.refusal,
-        next,
-    }
+    held_moved(a, table)
 }
 
 #[no_mangle]
