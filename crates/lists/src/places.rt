@@ -1,6 +1,5 @@
 // `choose`: a place of a list, and the entry there.
 ghost use mathlib.Core.Path.{_≡_};
-ghost use Prim.Native.Nat.{_<_};
 ghost use lib.ListN.{length};
 ghost use Rattle.random.specs.Generator.{wordsOf};
 ghost use Rattle.random.specs.Lent.{lent};

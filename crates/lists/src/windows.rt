@@ -1,6 +1,5 @@
 // `rand_slice`: where a part of a list starts; and the call that hands that part back.
 ghost use mathlib.Core.Path.{_≡_};
-ghost use Prim.Native.Nat.{_+_, _≤_};
 ghost use lib.ListN.{length};
 ghost use Rattle.random.specs.Generator.{wordsOf};
 ghost use Rattle.random.specs.Lent.{lent};

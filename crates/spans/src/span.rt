@@ -1,7 +1,5 @@
 // A number from 0 up to a last one, which may be the largest of 32 bits.
 ghost use mathlib.Core.Path.{_≡_};
-ghost use Prim.Native.Nat.{_≤_};
-ghost use Rattle.words.specs.Refusal.{answered};
 ghost use Rattle.random.specs.Generator.{wordsOf};
 ghost use Rattle.random.specs.Lent.{lent};
 ghost use Rattle.bounded.specs.Answers.{handed, answeredIn};

@@ -1,4 +1,4 @@
--- The same by value: what an export tells is its answer, the generator with its table.
+-- What an export by value tells is its answer, the generator's table with it: each is read back from what is told.
 -- Assumes nothing.
 use mathlib.Core.Bool.{Bool}
 use mathlib.Core.List.{List}
