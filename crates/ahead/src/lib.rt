@@ -2,8 +2,8 @@
 // for the kind once in sixteen words.
 ghost use mathlib.Core.Path.{_≡_};
 ghost use Prim.Native.Nat.{_≤_};
-ghost use Rattle.random.specs.Lent.{lent};
-ghost use Rattle.ahead.specs.Ahead.{atMost, WordsPut, XoshiroPut, TwisterPut, Pcg32Put, Pcg64Put};
+ghost use Rattle.ahead.specs.Ahead.{atMost, XoshiroPut, TwisterPut, Pcg32Put, Pcg64Put};
+ghost use Rattle.ahead.specs.Promises.{WordsInPromise};
 use pcg::Pcg32;
 use pcg::Pcg64;
 use random::Backend;
@@ -86,7 +86,7 @@ fn at_most(n: usize) -> usize
 
 // The next n words, at most sixteen, in the block's first entries, and the engine after them. The other entries stay.
 pub fn words_in(e: Engine, mt: &mut [u32; 624], block: &mut [u32; BLOCK], n: usize) -> Engine
-    ensures { λ r. ⌜ WordsPut (lent e (now (mt .entry))) (atMost n) (now (block .entry)) (now (block .exit)) (lent r (now (mt .exit))) ⌝ }
+    ensures { λ r. ⌜ WordsInPromise e (now (mt .entry)) (now (block .entry)) n r (now (mt .exit)) (now (block .exit)) ⌝ }
 {
     let few = at_most(n);
     let mti = e.mti;

@@ -1,6 +1,5 @@
 // What the calls that draw a number hand back: the one place that builds answers.
-ghost use mathlib.Core.Path.{_≡_};
-ghost use Rattle.bounded.specs.Answers.{refusing, accepting, raisedAnswer, joinedAnswer};
+ghost use Rattle.bounded.specs.Promises.{RefuseInPromise, AcceptInPromise, RaiseInPromise, JoinedPromise};
 use random::Engine;
 use random::Random;
 
@@ -22,7 +21,7 @@ pub struct EngineAnswer {
 
 // A refused call: its number, and the engine that came in.
 pub fn refuse_in(number: u32, e: Engine) -> EngineAnswer
-    ensures { λ a. ⌜ a ≡ refusing number e ⌝ }
+    ensures { λ a. ⌜ RefuseInPromise number e a ⌝ }
 {
     EngineAnswer {
         refusal: number,
@@ -34,7 +33,7 @@ pub fn refuse_in(number: u32, e: Engine) -> EngineAnswer
 
 // An answered call: its value, the words used, and the engine after them.
 pub fn accept_in(value: u32, used: u32, next: Engine) -> EngineAnswer
-    ensures { λ a. ⌜ a ≡ accepting value used next ⌝ }
+    ensures { λ a. ⌜ AcceptInPromise value used next a ⌝ }
 {
     EngineAnswer {
         refusal: words::refusal::ANSWERED,
@@ -46,7 +45,7 @@ pub fn accept_in(value: u32, used: u32, next: Engine) -> EngineAnswer
 
 // An answer with n added to its value, modulo 2^32; a refusal stays as it is.
 pub fn raise_in(n: u32, a: EngineAnswer) -> EngineAnswer
-    ensures { λ r. ⌜ r ≡ raisedAnswer n a ⌝ }
+    ensures { λ r. ⌜ RaiseInPromise n a r ⌝ }
 {
     if a.refusal == words::refusal::ANSWERED {
         let next = a.next;
@@ -58,7 +57,7 @@ pub fn raise_in(n: u32, a: EngineAnswer) -> EngineAnswer
 
 // Either of them by value: the answer over a lent table, and the table that it left.
 pub fn joined(a: EngineAnswer, mt: [u32; 624]) -> Answer
-    ensures { λ r. ⌜ r ≡ joinedAnswer a mt ⌝ }
+    ensures { λ r. ⌜ JoinedPromise a mt r ⌝ }
 {
     let e = a.next;
     let next = random::with_table(e, mt);

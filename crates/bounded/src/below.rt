@@ -1,12 +1,8 @@
 // A draw below a bound. The table changes only where the twister renews it, once in 624 words: so the first word, where it is ready and
 // good, settles nearly every draw and writes nothing. Otherwise the loop runs, for the twister on a copy that is written back on success.
-ghost use mathlib.Core.Path.{_≡_};
 ghost use Prim.Native.Nat.{_<_};
-ghost use Rattle.words.specs.Draw.{boundedBy};
-ghost use Rattle.random.specs.Generator.{wordsOf};
-ghost use Rattle.random.specs.Lent.{lent};
-ghost use Rattle.bounded.specs.Answers.{wordsFrom, answered, handed, answeredIn, Below};
-ghost use Rattle.bounded.specs.TableKept.{onTable};
+ghost use Rattle.bounded.specs.Answers.{Below};
+ghost use Rattle.bounded.specs.Promises.{OnTablePromise, BoundedInPromise, BoundedPromise};
 use crate::answers::Answer;
 use crate::answers::EngineAnswer;
 use crate::answers::accept_in;
@@ -19,7 +15,7 @@ use random::Random;
 
 // Whether the kind draws from the table.
 pub fn on_table(backend: Backend) -> bool
-    ensures { λ b. ⌜ b ≡ onTable backend ⌝ }
+    ensures { λ b. ⌜ OnTablePromise backend b ⌝ }
 {
     match backend {
         Backend::Xoshiro256PlusPlus(_) => false,
@@ -32,7 +28,7 @@ pub fn on_table(backend: Backend) -> bool
 // The draw by the loop, on a copy of the table.
 fn settle_on_copy(e: Engine, mt: &mut [u32; 624], r: u32, budget: u32) -> EngineAnswer
     requires { ⌜ 0 < r ⌝ }
-    ensures answer { λ a. ⌜ handed a (now (mt .exit)) ≡ answeredIn (lent e (now (mt .entry))) (boundedBy (wordsOf (lent e (now (mt .entry)))) r budget) ⌝ }
+    ensures answer { λ a. ⌜ BoundedInPromise e (now (mt .entry)) r budget a (now (mt .exit)) ⌝ }
     ensures small { λ a. ⌜ Below r a ⌝ }
 {
     let mut copy = *mt;
@@ -48,7 +44,7 @@ fn settle_on_copy(e: Engine, mt: &mut [u32; 624], r: u32, budget: u32) -> Engine
 
 // The draw by the loop.
 fn settle(e: Engine, mt: &mut [u32; 624], r: u32, budget: u32) -> EngineAnswer
-    ensures answer { λ a. ⌜ handed a (now (mt .exit)) ≡ answeredIn (lent e (now (mt .entry))) (boundedBy (wordsOf (lent e (now (mt .entry)))) r budget) ⌝ }
+    ensures answer { λ a. ⌜ BoundedInPromise e (now (mt .entry)) r budget a (now (mt .exit)) ⌝ }
     ensures small { λ a. ⌜ Below r a ⌝ }
 {
     if r == 0 {
@@ -68,7 +64,7 @@ fn settle(e: Engine, mt: &mut [u32; 624], r: u32, budget: u32) -> EngineAnswer
 
 // A number below r. Where it is refused the table is as it came.
 pub fn bounded_in(e: Engine, mt: &mut [u32; 624], r: u32, budget: u32) -> EngineAnswer
-    ensures answer { λ a. ⌜ handed a (now (mt .exit)) ≡ answeredIn (lent e (now (mt .entry))) (boundedBy (wordsOf (lent e (now (mt .entry)))) r budget) ⌝ }
+    ensures answer { λ a. ⌜ BoundedInPromise e (now (mt .entry)) r budget a (now (mt .exit)) ⌝ }
     ensures small { λ a. ⌜ Below r a ⌝ }
 {
     if budget > 0 {
@@ -86,7 +82,7 @@ pub fn bounded_in(e: Engine, mt: &mut [u32; 624], r: u32, budget: u32) -> Engine
 
 // A number below r.
 pub fn bounded(g: Random, r: u32, budget: u32) -> Answer
-    ensures { λ a. ⌜ a ≡ answered g (boundedBy (wordsFrom g) r budget) ⌝ }
+    ensures { λ a. ⌜ BoundedPromise g r budget a ⌝ }
 {
     let mut moved = g;
     let a = bounded_in(random::engine_of(g), &mut moved.twister.mt, r, budget);

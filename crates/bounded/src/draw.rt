@@ -2,8 +2,7 @@
 ghost use mathlib.Core.Bool.{true};
 ghost use mathlib.Core.Path.{_≡_};
 ghost use Prim.Native.Nat.{_<_};
-ghost use Rattle.random.specs.Lent.{lent};
-ghost use Rattle.bounded.specs.Trying.{TriedFrom};
+ghost use Rattle.bounded.specs.Promises.{DrawInPromise};
 use random::Engine;
 
 // The engine after the words taken, whether one of them settled the draw, its value (0 where none did), and how many were taken.
@@ -16,7 +15,7 @@ pub struct Tried {
 
 // A draw below r. It takes the words up to the good one; where none is good the whole budget, and none where r is 0.
 pub fn draw_in(e: Engine, mt: &mut [u32; 624], r: u32, budget: u32) -> Tried
-    ensures draw { λ t. ⌜ TriedFrom (lent e (now (mt .entry))) r budget t (lent (t .next) (now (mt .exit))) ⌝ }
+    ensures draw { λ t. ⌜ DrawInPromise e (now (mt .entry)) r budget t (now (mt .exit)) ⌝ }
     ensures small { λ t. ⌜ (t .found ≡ true → t .value < r) ⌝ }
 {
     let mut next = e;

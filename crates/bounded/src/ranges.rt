@@ -1,9 +1,5 @@
 // Draws that are a draw below a bound with a number added: between two ends, and a letter.
-ghost use mathlib.Core.Path.{_≡_};
-ghost use Rattle.random.specs.Generator.{wordsOf};
-ghost use Rattle.random.specs.Lent.{lent};
-ghost use Rattle.bounded.specs.Answers.{wordsFrom, answered, handed, answeredIn};
-ghost use Rattle.bounded.specs.Ranges.{rangeBy, charBy};
+ghost use Rattle.bounded.specs.Promises.{RandomRangeInPromise, RandomRangePromise, CharInPromise, CharPromise};
 use crate::answers::Answer;
 use crate::answers::EngineAnswer;
 use crate::answers::joined;
@@ -21,7 +17,7 @@ pub fn random_range_in(
     max: u32,
     budget: u32,
 ) -> EngineAnswer
-    ensures { λ a. ⌜ handed a (now (mt .exit)) ≡ answeredIn (lent e (now (mt .entry))) (rangeBy (wordsOf (lent e (now (mt .entry)))) min max budget) ⌝ }
+    ensures { λ a. ⌜ RandomRangeInPromise e (now (mt .entry)) min max budget a (now (mt .exit)) ⌝ }
 {
     if max <= min {
         return refuse_in(words::refusal::ORDER, e);
@@ -31,7 +27,7 @@ pub fn random_range_in(
 
 // A number from min up to max - 1.
 pub fn random_range(g: Random, min: u32, max: u32, budget: u32) -> Answer
-    ensures { λ a. ⌜ a ≡ answered g (rangeBy (wordsFrom g) min max budget) ⌝ }
+    ensures { λ a. ⌜ RandomRangePromise g min max budget a ⌝ }
 {
     let mut moved = g;
     let a = random_range_in(
@@ -47,14 +43,14 @@ pub fn random_range(g: Random, min: u32, max: u32, budget: u32) -> Answer
 
 // A small letter's ASCII code. Where it is refused the table is as it came.
 pub fn char_in(e: Engine, mt: &mut [u32; 624], budget: u32) -> EngineAnswer
-    ensures { λ a. ⌜ handed a (now (mt .exit)) ≡ answeredIn (lent e (now (mt .entry))) (charBy (wordsOf (lent e (now (mt .entry)))) budget) ⌝ }
+    ensures { λ a. ⌜ CharInPromise e (now (mt .entry)) budget a (now (mt .exit)) ⌝ }
 {
     raise_in(97, bounded_in(e, mt, 26, budget))
 }
 
 // A small letter's ASCII code.
 pub fn char(g: Random, budget: u32) -> Answer
-    ensures { λ a. ⌜ a ≡ answered g (charBy (wordsFrom g) budget) ⌝ }
+    ensures { λ a. ⌜ CharPromise g budget a ⌝ }
 {
     let mut moved = g;
     let a = char_in(random::engine_of(g), &mut moved.twister.mt, budget);

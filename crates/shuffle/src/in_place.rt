@@ -1,12 +1,8 @@
 // The shuffle in place. Its draws don't depend on the list: so they are rehearsed, and made with their swaps only where all are settled.
-ghost use mathlib.Core.Path.{_≡_};
 ghost use Prim.Native.Nat.{_<_};
-ghost use lib.ListN.{length};
-ghost use Rattle.random.specs.Generator.{wordsOf};
 ghost use Rattle.random.specs.Lent.{lent};
-ghost use Rattle.bounded.specs.Answers.{wordsFrom, answered, handed, answeredIn};
 ghost use Rattle.shuffle.specs.Performing.{Performed};
-ghost use Rattle.shuffle.specs.Shuffle.{shuffleBy, shuffled};
+ghost use Rattle.shuffle.specs.Promises.{ShuffleInPromise, ShuffleInListPromise, ShufflePromise, ShuffleListPromise};
 use crate::rehearsal::rehearse;
 use crate::rehearsal::room;
 use crate::swapping::swap;
@@ -49,8 +45,8 @@ fn perform(e: Engine, mt: &mut [u32; 624], list: &mut [u32], last: u32, budget: 
 
 // The list in an order drawn at random. Where it is refused, list and table are as they came.
 pub fn shuffle_in(e: Engine, mt: &mut [u32; 624], list: &mut [u32], budget: u32) -> EngineAnswer
-    ensures answer { λ a. ⌜ handed a (now (mt .exit)) ≡ answeredIn (lent e (now (mt .entry))) (shuffleBy (wordsOf (lent e (now (mt .entry)))) (length (now (list .entry))) budget) ⌝ }
-    ensures list { λ a. ⌜ now (list .exit) ≡ shuffled (wordsOf (lent e (now (mt .entry)))) (now (list .entry)) budget ⌝ }
+    ensures answer { λ a. ⌜ ShuffleInPromise e (now (mt .entry)) (now (list .entry)) budget a (now (mt .exit)) ⌝ }
+    ensures list { λ a. ⌜ ShuffleInListPromise e (now (mt .entry)) (now (list .entry)) budget (now (list .exit)) ⌝ }
 {
     let n = list.len();
     if n > bounded::limit::LIST_LIMIT {
@@ -69,8 +65,8 @@ pub fn shuffle_in(e: Engine, mt: &mut [u32; 624], list: &mut [u32], budget: u32)
 
 // The list in an order drawn at random. Where it is refused the list is as it came.
 pub fn shuffle(g: Random, list: &mut [u32], budget: u32) -> Answer
-    ensures answer { λ a. ⌜ a ≡ answered g (shuffleBy (wordsFrom g) (length (now (list .entry))) budget) ⌝ }
-    ensures list { λ a. ⌜ now (list .exit) ≡ shuffled (wordsFrom g) (now (list .entry)) budget ⌝ }
+    ensures answer { λ a. ⌜ ShufflePromise g (now (list .entry)) budget a ⌝ }
+    ensures list { λ a. ⌜ ShuffleListPromise g (now (list .entry)) budget (now (list .exit)) ⌝ }
 {
     let mut moved = g;
     let a = shuffle_in(random::engine_of(g), &mut moved.twister.mt, list, budget);

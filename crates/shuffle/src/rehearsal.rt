@@ -3,13 +3,11 @@
 ghost use mathlib.Core.Bool.{false};
 ghost use mathlib.Core.Path.{_≡_};
 ghost use Prim.Native.Nat.{_≤_};
-ghost use Rattle.words.specs.Draw.{draws};
-ghost use Rattle.random.specs.Generator.{wordsOf};
-ghost use Rattle.random.specs.Lent.{lent};
 ghost use Rattle.bounded.specs.TableKept.{onTable};
-ghost use Rattle.shuffle.specs.Bounds.{nextBound, boundsFrom};
+ghost use Rattle.shuffle.specs.Bounds.{nextBound};
 ghost use Rattle.shuffle.specs.FromGenerator.{Room};
-ghost use Rattle.shuffle.specs.Rehearsal.{tell, rehearsedOf};
+ghost use Rattle.shuffle.specs.Rehearsal.{tell};
+ghost use Rattle.shuffle.specs.Promises.{RehearsePromise, RehearseTablePromise};
 use random::Engine;
 
 // Whether all draws are settled, the words that they use (0 where they are not all settled), and how many of them are settled.
@@ -71,7 +69,7 @@ fn run(
     count: u32,
     budget: u32,
 ) -> Rehearsed
-    ensures told { λ d. ⌜ d ≡ rehearsedOf (draws (wordsOf (lent e (now (mt .entry)))) (boundsFrom first falls count) budget) ⌝ }
+    ensures told { λ d. ⌜ RehearsePromise e (now (mt .entry)) first falls count budget d ⌝ }
     ensures table { λ d. ⌜ (onTable (e .backend) ≡ false → now (mt .exit) ≡ now (mt .entry)) ⌝ }
 {
     let mut next = e;
@@ -110,8 +108,8 @@ pub fn rehearse(
     count: u32,
     budget: u32,
 ) -> Rehearsed
-    ensures told { λ d. ⌜ d ≡ rehearsedOf (draws (wordsOf (lent e (now (mt .entry)))) (boundsFrom first falls count) budget) ⌝ }
-    ensures table { λ d. ⌜ now (mt .exit) ≡ now (mt .entry) ⌝ }
+    ensures told { λ d. ⌜ RehearsePromise e (now (mt .entry)) first falls count budget d ⌝ }
+    ensures table { λ d. ⌜ RehearseTablePromise (now (mt .entry)) (now (mt .exit)) ⌝ }
 {
     let backend = e.backend;
     if bounded::on_table(backend) {
