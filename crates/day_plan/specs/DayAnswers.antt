@@ -7,42 +7,39 @@ use lib.ListN.{length}
 use Rattle.words.specs.Refusal.{answered}
 use Rattle.words.specs.Draw.{Words, refused}
 use Rattle.random.specs.declared.engine.Engine.{Engine}
-use Rattle.random.specs.Generator.{Gen, wordsOf}
+use Rattle.random.specs.Generator.{wordsOf}
 use Rattle.random.specs.Lent.{lent}
 use Rattle.bounded.specs.declared.answers.EngineAnswer.{EngineAnswer}
-use Rattle.bounded.specs.Answers.{handed, answeredIn, refusing}
+use Rattle.bounded.specs.Answers.{refusing}
 use Rattle.bounded.specs.AnswerLaws.{refusing-answers}
 use Rattle.bounded.specs.Limit.{listLimit}
 use Rattle.shuffle.specs.Shuffle.{shuffleBy}
 use Rattle.shuffle.specs.OneShuffle.{answered-exactly-if}
 use Rattle.shuffle.specs.ShuffleAnswers.{Shuffled}
 use Rattle.shuffle.specs.ShuffleBudgeted.{shuffle-budgeted}
-use Rattle.day_plan.specs.Day.{laidOut, plannedDay}
+use Rattle.day_plan.specs.Day.{laidOut}
 use Rattle.day_plan.specs.DayLaws.{laid-length, plan-answered, plan-refused}
-
--- the answer a with the table m, and the day l that became l′
-abbrev pub Planned : Gen → ℕ → List ℕ → ℕ → EngineAnswer → List ℕ → List ℕ → Type 0
-Planned g blanks l budget a m l′ =
-    (handed a m ≡ answeredIn g (shuffleBy (wordsOf g) (length l) budget)) × (l′ ≡ plannedDay (wordsOf g) blanks l budget)
+use Rattle.day_plan.specs.Promises.{PlanDayInPromise}
 
 -- only a day within the limit is laid out
 pub answered-fits : {number : ℕ} (s : Words) (n budget : ℕ) → number ≡ shuffleBy s n budget .refusal → number ≡ answered → n ≤ listLimit
 answered-fits s n budget p q = answered-exactly-if s n budget .0 (sym p ∙ q) .0
 
 -- It is laid out and shuffled,
-pub planned-all : {number : ℕ} {laid : List ℕ} {a : EngineAnswer} {m l′ : List ℕ} (g : Gen) (blanks : ℕ) (l : List ℕ) (budget : ℕ)
-    → number ≡ shuffleBy (wordsOf g) (length l) budget .refusal → number ≡ answered → laid ≡ laidOut blanks (length l) → Shuffled g laid budget a m l′
-    → Planned g blanks l budget a m l′
-planned-all {laid = laid} g blanks l budget p q e (answer, list) =
-    let same : length laid ≡ length l = ap length e ∙ laid-length blanks (length l) in (
+pub planned-all : {number : ℕ} {laid : List ℕ} {a : EngineAnswer} {m′ l′ : List ℕ} (e : Engine) (m : List ℕ) (blanks : ℕ) (l : List ℕ) (budget : ℕ)
+    → number ≡ shuffleBy (wordsOf (lent e m)) (length l) budget .refusal → number ≡ answered → laid ≡ laidOut blanks (length l)
+    → Shuffled (lent e m) laid budget a m′ l′
+    → PlanDayInPromise e m l blanks budget a m′ l′
+planned-all {laid = laid} e m blanks l budget p q f (answer, list) =
+    let same : length laid ≡ length l = ap length f ∙ laid-length blanks (length l) in (
       rw same at answer,
-      rw e at list ∙ sym (plan-answered (wordsOf g) blanks l budget (sym p ∙ q)),
+      rw f at list ∙ sym (plan-answered (wordsOf (lent e m)) blanks l budget (sym p ∙ q)),
     )
 
 -- or refused.
 pub planned-refused : {number : ℕ} {a : EngineAnswer} (e : Engine) (m : List ℕ) (blanks : ℕ) (l : List ℕ) (budget : ℕ)
     → number ≡ shuffleBy (wordsOf (lent e m)) (length l) budget .refusal → (number ≡ answered → ⊥) → a ≡ refusing number e
-    → Planned (lent e m) blanks l budget a m l
+    → PlanDayInPromise e m l blanks budget a m l
 planned-refused e m blanks l budget p n q =
     let no-answer : shuffleBy (wordsOf (lent e m)) (length l) budget .refusal ≡ answered → ⊥ = λ z. n (p ∙ z) in
     let bare = shuffle-budgeted (length l) .bare (wordsOf (lent e m)) budget no-answer in (

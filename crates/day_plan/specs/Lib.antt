@@ -3,9 +3,11 @@
 -- What a reader must believe: a day laid out, and the plan over any words; with an example.
 pub mod Day
 pub mod DayExample
--- What the plan's promise fixes: each inlet has its share; one answer and one day, the same at every larger budget.
+-- What each call promises; and what that fixes: one answer and one day, in which each inlet has its share, the same at every larger budget.
+pub mod Promises
+pub mod PromisesLaws
 pub mod ItsShare
-pub mod OnePlan
+pub mod DayBudgeted
 -- For code that asks first, lays a day out and plans it.
 pub mod DayLaws
 pub mod Asking

@@ -1,11 +1,9 @@
 // The plan of a day. Whether its draws end within the budget is settled before a slot is touched: so a refusal leaves the day as it came.
 ghost use mathlib.Core.Path.{_≡_};
-ghost use lib.ListN.{length};
 ghost use Rattle.random.specs.Generator.{wordsOf};
 ghost use Rattle.random.specs.Lent.{lent};
-ghost use Rattle.bounded.specs.Answers.{wordsFrom, answered, handed, answeredIn};
 ghost use Rattle.shuffle.specs.Shuffle.{shuffleBy};
-ghost use Rattle.day_plan.specs.Day.{plannedDay};
+ghost use Rattle.day_plan.specs.Promises.{PlanDayInPromise, PlanDayPromise};
 use crate::layout::lay_out;
 use bounded::Answer;
 use bounded::EngineAnswer;
@@ -40,8 +38,7 @@ pub fn plan_day_in(
     blanks: usize,
     budget: u32,
 ) -> EngineAnswer
-    ensures answer { λ a. ⌜ handed a (now (mt .exit)) ≡ answeredIn (lent e (now (mt .entry))) (shuffleBy (wordsOf (lent e (now (mt .entry)))) (length (now (day .entry))) budget) ⌝ }
-    ensures day { λ a. ⌜ now (day .exit) ≡ plannedDay (wordsOf (lent e (now (mt .entry)))) blanks (now (day .entry)) budget ⌝ }
+    ensures { λ a. ⌜ PlanDayInPromise e (now (mt .entry)) (now (day .entry)) blanks budget a (now (mt .exit)) (now (day .exit)) ⌝ }
 {
     let number = refusal_of(e, mt, day.len(), budget);
     if number == words::refusal::ANSWERED {
@@ -53,8 +50,7 @@ pub fn plan_day_in(
 
 // The same by value. Where it is refused the day is as it came.
 pub fn plan_day(g: Random, day: &mut [u32], blanks: usize, budget: u32) -> Answer
-    ensures answer { λ a. ⌜ a ≡ answered g (shuffleBy (wordsFrom g) (length (now (day .entry))) budget) ⌝ }
-    ensures day { λ a. ⌜ now (day .exit) ≡ plannedDay (wordsFrom g) blanks (now (day .entry)) budget ⌝ }
+    ensures { λ a. ⌜ PlanDayPromise g (now (day .entry)) blanks budget a (now (day .exit)) ⌝ }
 {
     let mut moved = g;
     let a = plan_day_in(

@@ -21,7 +21,7 @@ returns c =
     let f = c .before .before in
     let o = f .before .before .before .before .before in
     let r = o .before .before .before in
-    planned-all _ _ _ _ (r .refusal-of .ensures .0) (o .before .before .if1 .taken) (o .lay-out .ensures) (rw (r .refusal-of .ensures .1) at (f .shuffle-in .ensures))
+    planned-all _ _ _ _ _ (r .refusal-of .ensures .0) (o .before .before .if1 .taken) (o .lay-out .ensures) (rw (r .refusal-of .ensures .1) at (f .shuffle-in .ensures))
 
 refuse-in-requires : tie.Need-refuse-in-requires
 refuse-in-requires c κs = search needs
