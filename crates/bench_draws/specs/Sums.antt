@@ -8,10 +8,9 @@ use Rattle.words.specs.Draw.{boundedBy}
 use Rattle.random.specs.Generator.{Gen, wordsOf}
 use Rattle.random.specs.Lent.{lent}
 use Rattle.bounded.specs.Answers.{LentAnswer, answeredIn}
-use Rattle.random.specs.declared.engine.Engine.{Engine}
 use Rattle.vrd_ffi.specs.declared.boundary.Parts.{Parts}
+use Rattle.vrd_ffi.specs.Answers.{Held, held, become, Counted, counted}
 use Rattle.vrd_ffi.specs.Boundary.{generatorOf, partsWith}
-use Rattle.vrd_ffi.specs.BoundaryLaws.{engine-of-parts}
 use Rattle.bench_draws.specs.declared.exports.Sums as exported
 use Rattle.bench_draws.specs.declared.loops.EngineSums.{EngineSums}
 
@@ -40,10 +39,16 @@ drawnIn r budget (suc n) g = moreIn (drawnIn r budget n g) (oneIn r budget (draw
 abbrev pub given : EngineSums → List ℕ → Total Gen
 given s t = record { sum = s .sum; used = s .used; next = lent (s .next) t }
 
--- ---- at the boundary
+-- ---- at the boundary: the small words that the kind does not use stay as they came
 
-abbrev pub told : exported.Sums → List ℕ → Total Gen
-told s t = record { sum = s .sum; used = s .used; next = generatorOf (s .next) t }
+abbrev pub told : exported.Sums → List ℕ → Held (Counted ℕ)
+told s t = held (counted (s .sum) (s .used)) (s .next) t
+
+abbrev pub becomeTotal : Parts → Total Gen → Held (Counted ℕ)
+becomeTotal p d = become p (counted (d .sum) (d .used)) (d .next)
+
+abbrev pub drawnAt : (r budget n : ℕ) → Parts → List ℕ → Held (Counted ℕ)
+drawnAt r budget n p t = becomeTotal p (drawnIn r budget n (generatorOf p t))
 
 -- ---- one turn of the loop
 
@@ -59,7 +64,5 @@ in-further r budget n g e d = rw (add-one, d, e)
 -- ---- the generator read out as parts and table
 
 pub told-lent : {t : Total Gen} (s : EngineSums) (m : List ℕ) (p q : Parts) → q ≡ partsWith (s .next) p → given s m ≡ t
-    → record { sum = s .sum; used = s .used; next = generatorOf q m } ≡ t
-told-lent s m p q e d =
-    ap (λ (x : Parts). record { sum = s .sum; used = s .used; next = generatorOf x m }) e
-    ∙ ap (λ (x : Engine). record { sum = s .sum; used = s .used; next = lent x m }) (engine-of-parts (s .next) p) ∙ d
+    → held (counted (s .sum) (s .used)) q m ≡ becomeTotal p t
+told-lent s m p q e d = ap (λ (x : Parts). held (counted (s .sum) (s .used)) x m) e ∙ ap (becomeTotal p) d

@@ -1,7 +1,5 @@
 // The loop at the boundary: the generator as `vrd_ffi` has it, its small words by value and its table lent.
-ghost use mathlib.Core.Path.{_≡_};
-ghost use Rattle.vrd_ffi.specs.Boundary.{generatorOf};
-ghost use Rattle.bench_draws.specs.Sums.{told, drawnIn};
+ghost use Rattle.bench_draws.specs.Promises.{BenchDrawsLentPromise};
 use crate::loops::draws_in;
 use vrd_ffi::Parts;
 
@@ -21,7 +19,7 @@ pub extern "C" fn bench_draws_lent(
     budget: u32,
     n: u64,
 ) -> Sums
-    ensures { λ s. ⌜ told s (now (table .exit)) ≡ drawnIn r budget n (generatorOf p (now (table .entry))) ⌝ }
+    ensures { λ s. ⌜ BenchDrawsLentPromise p (now (table .entry)) r budget n s (now (table .exit)) ⌝ }
 {
     let s = draws_in(vrd_ffi::engine(p), table, r, budget, n);
     let e = s.next;
