@@ -1,9 +1,5 @@
 // The loop at the boundary: the generator as `vrd_ffi` has it, its small words by value and its table lent.
-ghost use mathlib.Core.Path.{_≡_};
-ghost use Rattle.vrd_ffi.specs.Boundary.{engineOf};
-ghost use Rattle.random.specs.Words.{joinedWith};
-ghost use Rattle.bench_draws.specs.Sums.{told};
-ghost use Rattle.bench_draws_by_value.specs.Sums.{drawnByValue, generatorsOnly};
+ghost use Rattle.bench_draws_by_value.specs.Promises.{BenchDrawsByValuePromise};
 use crate::loops::draws_by_value;
 use bench_draws::Sums;
 use vrd_ffi::Parts;
@@ -16,7 +12,7 @@ pub extern "C" fn bench_draws_by_value(
     budget: u32,
     n: u64,
 ) -> Sums
-    ensures { λ s. ⌜ told s (now (table .exit)) ≡ generatorsOnly (drawnByValue r budget n (joinedWith (engineOf p) (now (table .entry)))) ⌝ }
+    ensures { λ s. ⌜ BenchDrawsByValuePromise p (now (table .entry)) r budget n s (now (table .exit)) ⌝ }
 {
     let g = random::with_table(vrd_ffi::engine(p), *table);
     let s = draws_by_value(g, r, budget, n);
