@@ -1,42 +1,41 @@
 // Exports of Pcg32.
-ghost use mathlib.Core.Path.{_≡_};
-ghost use Rattle.pcg.specs.Pcg32.{drawn, drawnTwice, seeded, defaultStream, seededBytes};
-ghost use Rattle.bench_ffi.specs.Loops.{pcg32Words};
+ghost use Rattle.pcg.specs.Pcg32Promises.{Pcg32FromU64SeedPromise, Pcg32FromSeedStreamPromise, Pcg32FromSeedPromise, Pcg32NextU32Promise, Pcg32NextU64Promise};
+ghost use Rattle.bench_ffi.specs.Promises.{Pcg32WordsPromise};
 use pcg::Pcg32;
 use pcg::pcg32::Drawn32;
 use pcg::pcg32::Drawn64;
 
 #[no_mangle]
 pub extern "C" fn pcg32_from_u64_seed(seed: u64) -> Pcg32
-    ensures { λ r. ⌜ r ≡ seeded seed defaultStream ⌝ }
+    ensures { λ r. ⌜ Pcg32FromU64SeedPromise seed r ⌝ }
 {
     Pcg32::from_u64_seed(seed)
 }
 
 #[no_mangle]
 pub extern "C" fn pcg32_from_seed_stream(seed: u64, stream: u64) -> Pcg32
-    ensures { λ r. ⌜ r ≡ seeded seed stream ⌝ }
+    ensures { λ r. ⌜ Pcg32FromSeedStreamPromise seed stream r ⌝ }
 {
     Pcg32::from_seed_stream(seed, stream)
 }
 
 #[no_mangle]
 pub extern "C" fn pcg32_from_seed(seed: &[u8; 16]) -> Pcg32
-    ensures { λ r. ⌜ r ≡ seededBytes (now (seed .entry)) ⌝ }
+    ensures { λ r. ⌜ Pcg32FromSeedPromise (now (seed .entry)) r ⌝ }
 {
     Pcg32::from_seed(*seed)
 }
 
 #[no_mangle]
 pub extern "C" fn pcg32_next_u32(g: Pcg32) -> Drawn32
-    ensures { λ r. ⌜ r ≡ drawn g ⌝ }
+    ensures { λ r. ⌜ Pcg32NextU32Promise g r ⌝ }
 {
     g.next_u32()
 }
 
 #[no_mangle]
 pub extern "C" fn pcg32_next_u64(g: Pcg32) -> Drawn64
-    ensures { λ r. ⌜ r ≡ drawnTwice g ⌝ }
+    ensures { λ r. ⌜ Pcg32NextU64Promise g r ⌝ }
 {
     g.next_u64()
 }
@@ -44,7 +43,7 @@ pub extern "C" fn pcg32_next_u64(g: Pcg32) -> Drawn64
 // The XOR of the next n 32-bit words, and the generator after them.
 #[no_mangle]
 pub extern "C" fn pcg32_words(g: Pcg32, n: u64) -> Drawn32
-    ensures { λ r. ⌜ r ≡ pcg32Words n g ⌝ }
+    ensures { λ r. ⌜ Pcg32WordsPromise g n r ⌝ }
 {
     let mut next = g;
     let mut word: u32 = 0;

@@ -1,8 +1,6 @@
 // Exports of Pcg64; numbers of 128 bits are a high and a low word.
-ghost use mathlib.Core.Path.{_≡_};
-ghost use Rattle.wrapping.specs.Wide.{value};
-ghost use Rattle.pcg.specs.Pcg64.{drawn, drawnHigh, seeded, defaultStream, seededBytes};
-ghost use Rattle.bench_ffi.specs.Loops.{pcg64Words};
+ghost use Rattle.pcg.specs.Pcg64Promises.{Pcg64FromU128SeedPromise, Pcg64FromSeedStreamPromise, Pcg64FromSeedPromise, Pcg64NextU64Promise, Pcg64NextU32Promise};
+ghost use Rattle.bench_ffi.specs.Promises.{Pcg64WordsPromise};
 use pcg::Pcg64;
 use pcg::pcg64::Drawn32;
 use pcg::pcg64::Drawn64;
@@ -10,35 +8,35 @@ use wrapping::Wide;
 
 #[no_mangle]
 pub extern "C" fn pcg64_from_u128_seed(seed: Wide) -> Pcg64
-    ensures { λ r. ⌜ r ≡ seeded (value seed) defaultStream ⌝ }
+    ensures { λ r. ⌜ Pcg64FromU128SeedPromise seed r ⌝ }
 {
     Pcg64::from_u128_seed(seed)
 }
 
 #[no_mangle]
 pub extern "C" fn pcg64_from_seed_stream(seed: Wide, stream: Wide) -> Pcg64
-    ensures { λ r. ⌜ r ≡ seeded (value seed) (value stream) ⌝ }
+    ensures { λ r. ⌜ Pcg64FromSeedStreamPromise seed stream r ⌝ }
 {
     Pcg64::from_seed_stream(seed, stream)
 }
 
 #[no_mangle]
 pub extern "C" fn pcg64_from_seed(seed: &[u8; 32]) -> Pcg64
-    ensures { λ r. ⌜ r ≡ seededBytes (now (seed .entry)) ⌝ }
+    ensures { λ r. ⌜ Pcg64FromSeedPromise (now (seed .entry)) r ⌝ }
 {
     Pcg64::from_seed(*seed)
 }
 
 #[no_mangle]
 pub extern "C" fn pcg64_next_u64(g: Pcg64) -> Drawn64
-    ensures { λ r. ⌜ r ≡ drawn g ⌝ }
+    ensures { λ r. ⌜ Pcg64NextU64Promise g r ⌝ }
 {
     g.next_u64()
 }
 
 #[no_mangle]
 pub extern "C" fn pcg64_next_u32(g: Pcg64) -> Drawn32
-    ensures { λ r. ⌜ r ≡ drawnHigh g ⌝ }
+    ensures { λ r. ⌜ Pcg64NextU32Promise g r ⌝ }
 {
     g.next_u32()
 }
@@ -46,7 +44,7 @@ pub extern "C" fn pcg64_next_u32(g: Pcg64) -> Drawn32
 // The XOR of the next n 64-bit words, and the generator after them.
 #[no_mangle]
 pub extern "C" fn pcg64_words(g: Pcg64, n: u64) -> Drawn64
-    ensures { λ r. ⌜ r ≡ pcg64Words n g ⌝ }
+    ensures { λ r. ⌜ Pcg64WordsPromise g n r ⌝ }
 {
     let mut next = g;
     let mut word: u64 = 0;

@@ -16,7 +16,7 @@ use Rattle.mersenne_twister.specs.declared.table.Step64.{Step64}
 held-apart : {m n : List ℕ} {i j : ℕ} → held m i ≡ held n j → (i ≡ j) × (m ≡ n)
 held-apart h = (ap (λ (x : MersenneTwister). x .mti) h, ap (λ (x : MersenneTwister). x .mt) h)
 
-step-apart : {r s : Step} {m n : List ℕ} → stepped r m ≡ stepped s n → (r ≡ s) × (m ≡ n)
+pub step-apart : {r s : Step} {m n : List ℕ} → stepped r m ≡ stepped s n → (r ≡ s) × (m ≡ n)
 step-apart h = (ap (λ (x : Drawn32). record { word = x .word; mti = x .next .mti }) h, ap (λ (x : Drawn32). x .next .mt) h)
 
 step64-apart : {r s : Step64} {m n : List ℕ} → stepped64 r m ≡ stepped64 s n → (r ≡ s) × (m ≡ n)
