@@ -1,0 +1,62 @@
+-- `first_good` is safe and ends: the budget falls. Assumes nothing.
+use borrow.Author.Needs.{needs}
+use Prim.Native.Nat.{_≤_, _-_}
+use Rattle.refusals.proofs.order.first_good.Statement.{statement}
+use Rattle.refusals.proofs.order.first_good.Tie as tie
+
+abbrev Inv-loop : tie.InvT-loop
+Inv-loop r budget next₀ used₀ next used = used ≤ budget
+
+abbrev μ-loop : tie.MeasureT-loop
+μ-loop r budget next₀ used₀ next used = budget - used
+
+loop-holds : tie.Need-loop-holds Inv-loop μ-loop
+loop-holds c = search needs
+
+rand-requires : tie.Need-rand-requires Inv-loop μ-loop
+rand-requires c κs = search needs
+
+cast-mul-u64 : tie.Need-cast-mul-u64 Inv-loop μ-loop
+cast-mul-u64 c = search needs
+
+mul-u64-requires : tie.Need-mul-u64-requires Inv-loop μ-loop
+mul-u64-requires c κs = search needs
+
+add-used : tie.Need-add-used Inv-loop μ-loop
+add-used c = search needs
+
+is-good-requires : tie.Need-is-good-requires Inv-loop μ-loop
+is-good-requires c κs = search needs
+
+cast-t12 : tie.Need-cast-t12 Inv-loop μ-loop
+cast-t12 c = search needs
+
+returns : tie.Need-returns Inv-loop μ-loop
+returns c = search needs
+
+loop-less : tie.Need-loop-less Inv-loop μ-loop
+loop-less c = search needs
+
+loop-again : tie.Need-loop-again Inv-loop μ-loop
+loop-again c = search needs
+
+returns-2 : tie.Need-returns-2 Inv-loop μ-loop
+returns-2 c = search needs
+
+pub first-good-spec : {M : Type 1} → statement M
+first-good-spec =
+    tie.close
+    (tie.spec
+    Inv-loop
+    μ-loop
+    loop-holds
+    rand-requires
+    cast-mul-u64
+    mul-u64-requires
+    add-used
+    is-good-requires
+    cast-t12
+    returns
+    loop-less
+    loop-again
+    returns-2)
