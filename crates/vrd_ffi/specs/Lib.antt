@@ -16,6 +16,9 @@ pub mod DrawCalls
 pub mod DrawCallsLaws
 pub mod ListCalls
 pub mod ListCallsLaws
+-- In place.
+pub mod InPlace
+pub mod InPlaceLaws
 -- By value.
 pub mod ByValue
 pub mod HeldWords
@@ -32,3 +35,5 @@ pub mod ReadBack
 pub mod ReadBackHeld
 pub mod PromisesLaws
 pub mod PromisesByValueLaws
+pub mod PromisesInPlace
+pub mod PromisesInPlaceLaws
