@@ -28,17 +28,17 @@ module _ (kind mti : ℕ) (small mt : List ℕ) {mti₁ mti₂ : ℕ} (small₁ 
   pub one-rand-in-place : {a b : MovedWord32} → RandInPlacePromise kind mti small mt a mti₁ small₁ mt₁ → RandInPlacePromise kind mti small mt b mti₂ small₂ mt₂
       → (a ≡ b) × Left kind mti₁ small₁ mt₁ mti₂ small₂ mt₂
   one-rand-in-place p q =
-      let (same, left) = back (p ∙ sym q) in
-      (ap (λ (x : Answered ℕ). record { refusal = x .refusal; word = x .answer }) same, left)
+      let (same, kept, table) = back (p ∙ sym q) in
+      (ap (λ (x : Answered ℕ). record { refusal = x .refusal; word = x .answer }) same, (kept, table))
 
   pub one-u64-in-place : {a b : MovedWord64} → U64InPlacePromise kind mti small mt a mti₁ small₁ mt₁ → U64InPlacePromise kind mti small mt b mti₂ small₂ mt₂
       → (a ≡ b) × Left kind mti₁ small₁ mt₁ mti₂ small₂ mt₂
   one-u64-in-place p q =
-      let (same, left) = back (p ∙ sym q) in
-      (ap (λ (x : Answered ℕ). record { refusal = x .refusal; word = x .answer }) same, left)
+      let (same, kept, table) = back (p ∙ sym q) in
+      (ap (λ (x : Answered ℕ). record { refusal = x .refusal; word = x .answer }) same, (kept, table))
 
   pub one-bounded-in-place : (r budget : ℕ) {a b : MovedNumber} → BoundedInPlacePromise kind mti small mt r budget a mti₁ small₁ mt₁
       → BoundedInPlacePromise kind mti small mt r budget b mti₂ small₂ mt₂ → (a ≡ b) × Left kind mti₁ small₁ mt₁ mti₂ small₂ mt₂
   one-bounded-in-place r budget p q =
-      let (same, left) = back (p ∙ sym q) in
-      (ap (λ (x : Answered (Counted ℕ)). record { refusal = x .refusal; value = x .answer .value; used = x .answer .used }) same, left)
+      let (same, kept, table) = back (p ∙ sym q) in
+      (ap (λ (x : Answered (Counted ℕ)). record { refusal = x .refusal; value = x .answer .value; used = x .answer .used }) same, (kept, table))
