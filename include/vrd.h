@@ -92,6 +92,17 @@ typedef struct {
     vrd_parts next;
 } vrd_signed64;
 
+/* A word of a generator that has moved in place. */
+typedef struct {
+    uint32_t refusal;
+    uint32_t word;
+} vrd_moved_word32;
+
+typedef struct {
+    uint32_t refusal;
+    uint64_t word;
+} vrd_moved_word64;
+
 /* A float and the generator after it. */
 typedef struct {
     uint32_t refusal;
@@ -127,6 +138,13 @@ typedef struct {
     uint32_t used;
     vrd_parts next;
 } vrd_integer;
+
+/* A number drawn within a budget, and the words used, of a generator that has moved in place. */
+typedef struct {
+    uint32_t refusal;
+    uint32_t value;
+    uint32_t used;
+} vrd_moved_number;
 
 /* An entry of a list, with its place. */
 typedef struct {
@@ -218,6 +236,13 @@ vrd_integer vrd_int(vrd_parts g, uint32_t *table, int32_t min, int32_t max, uint
 vrd_integer vrd_range(vrd_parts g, uint32_t *table, int32_t min, int32_t max, uint32_t budget);
 vrd_number vrd_uint(vrd_parts g, uint32_t *table, uint32_t min, uint32_t max, uint32_t budget);
 vrd_number vrd_char(vrd_parts g, uint32_t *table, uint32_t budget);
+
+/* vrd_rand, vrd_u64 and vrd_bounded in place, which is faster a call at a time: kind, position, the four small words (as w0 to w3 in
+ * vrd_parts) and the table make the generator, and what moves is written where it stands. The four may not overlap. */
+vrd_moved_word32 vrd_rand_in_place(uint32_t kind, uint32_t *mti, uint64_t *words, uint32_t *table);
+vrd_moved_word64 vrd_u64_in_place(uint32_t kind, uint32_t *mti, uint64_t *words, uint32_t *table);
+vrd_moved_number vrd_bounded_in_place(uint32_t kind, uint32_t *mti, uint64_t *words, uint32_t *table, uint32_t bound,
+                                      uint32_t budget);
 
 /* Lists within a budget: an entry; the start of a part that is `window` long; a new order in place. */
 vrd_chosen vrd_choose(vrd_parts g, uint32_t *table, const uint32_t *list, size_t length, uint32_t budget);

@@ -1,8 +1,11 @@
-//! One call at a time, as a Rust program makes them: the original's methods, and those of the package `vrd`.
+//! One call at a time, as a Rust program makes them: the original's methods, and those of the package `vrd`. On both sides the
+//! generator passes through a black box before each call, so that it stands in memory between calls, as it does in a program
+//! that draws now and then. Otherwise the compiler would keep the original's few words in registers all through the loop.
 
 use crate::draws::{BOUND, BUDGET};
 use crate::kinds;
 use crate::timing::{timed, Case};
+use std::hint::black_box;
 
 /// The call's name and both sides: the XOR of n answers.
 type Row = (&'static str, fn(&mut vrd_original::Random, u64) -> u64, fn(&mut vrd::Random, u64) -> u64);
@@ -32,9 +35,9 @@ pub fn cases(seed: u64, calls: u64) -> Vec<Case> {
     rows.into_iter().flat_map(|row| (0..4).map(move |kind| case(row, kind))).collect()
 }
 
-/// The XOR of n answers.
+/// The XOR of n answers, each of a generator that stands in memory.
 fn xor<G>(g: &mut G, n: u64, call: impl Fn(&mut G) -> u64) -> u64 {
-    (0..n).fold(0, |xor, _| xor ^ call(g))
+    (0..n).fold(0, |xor, _| xor ^ call(black_box(&mut *g)))
 }
 
 #[inline(never)]

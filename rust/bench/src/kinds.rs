@@ -69,10 +69,10 @@ pub fn port_parts(g: &vrd::Random) -> Vec<u64> {
 
 /// The same parts as the exports have them.
 pub fn lent_parts((parts, table): &(Parts, Table)) -> Vec<u64> {
-    let Parts { kind, mti, w0, w1, w2, w3 } = *parts;
+    let Parts { kind, mti, words } = *parts;
     match kind {
         1 => twister(table, mti.into()),
-        2 => vec![w0, w1],
-        _ => vec![w0, w1, w2, w3],
+        2 => words[..2].into(),
+        _ => words.into(),
     }
 }

@@ -1,6 +1,6 @@
 //! Numbers drawn within a budget of words: below a bound, between two ends, a letter.
 
-use crate::answers::number;
+use crate::answers::{drawn, number};
 use crate::{exports, Drawn, Random, Refusal};
 
 /// # Draws within a budget
@@ -33,9 +33,9 @@ impl Random {
     /// Refused where the bound is 0 ([`Refusal::ZeroRange`]).
     #[inline]
     pub fn bounded(&mut self, bound: u32, budget: u32) -> Result<Drawn<u32>, Refusal> {
-        let answer = exports::vrd_bounded(self.small, &mut self.table, bound, budget);
-        self.moves_to(&answer.next);
-        number(answer)
+        let exports::Parts { kind, mti, words } = &mut self.small;
+        let answer = exports::vrd_bounded_in_place(*kind, mti, words, &mut self.table, bound, budget);
+        drawn(answer.refusal, answer.value, answer.used)
     }
 
     /// A number from `min` up to `max - 1`.
@@ -44,7 +44,7 @@ impl Random {
     #[inline]
     pub fn random_range(&mut self, min: u32, max: u32, budget: u32) -> Result<Drawn<u32>, Refusal> {
         let answer = exports::vrd_random_range(self.small, &mut self.table, min, max, budget);
-        self.moves_to(&answer.next);
+        self.small = answer.next;
         number(answer)
     }
 
@@ -54,7 +54,7 @@ impl Random {
     #[inline]
     pub fn int(&mut self, min: i32, max: i32, budget: u32) -> Result<Drawn<i32>, Refusal> {
         let answer = exports::vrd_int(self.small, &mut self.table, min, max, budget);
-        self.moves_to(&answer.next);
+        self.small = answer.next;
         number(answer)
     }
 
@@ -62,7 +62,7 @@ impl Random {
     #[inline]
     pub fn range(&mut self, min: i32, max: i32, budget: u32) -> Result<Drawn<i32>, Refusal> {
         let answer = exports::vrd_range(self.small, &mut self.table, min, max, budget);
-        self.moves_to(&answer.next);
+        self.small = answer.next;
         number(answer)
     }
 
@@ -70,7 +70,7 @@ impl Random {
     #[inline]
     pub fn uint(&mut self, min: u32, max: u32, budget: u32) -> Result<Drawn<u32>, Refusal> {
         let answer = exports::vrd_uint(self.small, &mut self.table, min, max, budget);
-        self.moves_to(&answer.next);
+        self.small = answer.next;
         number(answer)
     }
 
@@ -78,7 +78,7 @@ impl Random {
     #[inline]
     pub fn char(&mut self, budget: u32) -> Result<Drawn<char>, Refusal> {
         let answer = exports::vrd_char(self.small, &mut self.table, budget);
-        self.moves_to(&answer.next);
+        self.small = answer.next;
         // The export answers the letter's ASCII code, from 97 to 122.
         number(answer).map(|drawn| Drawn { value: char::from(drawn.value as u8), used: drawn.used })
     }

@@ -25,45 +25,14 @@ impl From<Wide> for u128 {
     }
 }
 
-/// A generator without its table: the kind, the twister's position and the kind's small words.
+/// A generator without its table: the kind, the twister's position and the kind's small words. The export's struct has these as
+/// four fields, which lie in memory as an array does.
 #[repr(C)]
 #[derive(Clone, Copy, Debug, Eq, PartialEq)]
 pub struct Parts {
     pub kind: u32,
     pub mti: u32,
-    pub w0: u64,
-    pub w1: u64,
-    pub w2: u64,
-    pub w3: u64,
-}
-
-/// Puts the parts that an export has just answered in the place of the old ones.
-///
-/// The export wrote them word by word, and a processor does not hand several narrow writes on to one wide read before they have
-/// reached the cache: a plain copy, by 16 bytes at a time, waits for that as long as the rest of the call takes. So the parts are
-/// read as they were written. They are written by 16 bytes, since that is how the next call reads them.
-#[cfg(target_arch = "x86_64")]
-#[inline]
-pub(crate) fn replace(parts: &mut Parts, next: &Parts) {
-    use core::arch::x86_64::{_mm_set_epi64x, _mm_storeu_si128};
-    use core::ptr::{from_mut, read_volatile};
-    let to = from_mut(parts).cast();
-    // SAFETY: what a reference leads to may be read; the two stores fill the first 32 of the 40 bytes of the parts, in the order of
-    // the fields, and the fields take any bits.
-    unsafe {
-        let first = u64::from(read_volatile(&next.mti)) << 32 | u64::from(read_volatile(&next.kind));
-        let [w0, w1, w2] = [&next.w0, &next.w1, &next.w2].map(|word| read_volatile(word) as i64);
-        _mm_storeu_si128(to, _mm_set_epi64x(w0, first as i64));
-        _mm_storeu_si128(to.add(1), _mm_set_epi64x(w2, w1));
-    }
-    parts.w3 = next.w3;
-}
-
-/// Puts the parts that an export has just answered in the place of the old ones.
-#[cfg(not(target_arch = "x86_64"))]
-#[inline]
-pub(crate) fn replace(parts: &mut Parts, next: &Parts) {
-    *parts = *next;
+    pub words: [u64; 4],
 }
 
 /// A word or a number, and the generator after it.
@@ -73,6 +42,23 @@ pub struct Word<W> {
     pub refusal: u32,
     pub word: W,
     pub next: Parts,
+}
+
+/// A word of a generator that has moved in place.
+#[repr(C)]
+#[derive(Clone, Copy, Debug, PartialEq)]
+pub struct MovedWord<W> {
+    pub refusal: u32,
+    pub word: W,
+}
+
+/// A number drawn within a budget, and the words used, of a generator that has moved in place.
+#[repr(C)]
+#[derive(Clone, Copy, Debug, PartialEq)]
+pub struct MovedNumber {
+    pub refusal: u32,
+    pub value: u32,
+    pub used: u32,
 }
 
 /// The generator after a call that answers nothing else.
@@ -178,6 +164,17 @@ unsafe extern "C" {
     pub safe fn vrd_u64(parts: Parts, table: &mut Table) -> Word<u64>;
     pub safe fn vrd_i64(parts: Parts, table: &mut Table) -> Word<i64>;
     pub safe fn vrd_pseudo(parts: Parts, table: &mut Table) -> Word<u32>;
+
+    pub safe fn vrd_rand_in_place(kind: u32, mti: &mut u32, words: &mut [u64; 4], table: &mut Table) -> MovedWord<u32>;
+    pub safe fn vrd_u64_in_place(kind: u32, mti: &mut u32, words: &mut [u64; 4], table: &mut Table) -> MovedWord<u64>;
+    pub safe fn vrd_bounded_in_place(
+        kind: u32,
+        mti: &mut u32,
+        words: &mut [u64; 4],
+        table: &mut Table,
+        bound: u32,
+        budget: u32,
+    ) -> MovedNumber;
 
     pub safe fn vrd_seed(parts: Parts, table: &mut Table, seed: u32) -> Moved;
     pub safe fn vrd_twist(parts: Parts, table: &mut Table) -> Moved;

@@ -30,7 +30,7 @@ impl Random {
     #[inline]
     pub fn float(&mut self) -> f32 {
         let drawn = exports::vrd_float(self.small, &mut self.table);
-        self.moves_to(&drawn.next);
+        self.small = drawn.next;
         drawn.word
     }
 
@@ -38,7 +38,7 @@ impl Random {
     #[inline]
     pub fn double(&mut self) -> f64 {
         let drawn = exports::vrd_double(self.small, &mut self.table);
-        self.moves_to(&drawn.next);
+        self.small = drawn.next;
         drawn.word
     }
 
@@ -48,7 +48,7 @@ impl Random {
     #[inline]
     pub fn bool(&mut self, chance: f64) -> Result<Drawn<bool>, Refusal> {
         let coin = exports::vrd_bool(self.small, &mut self.table, chance);
-        self.moves_to(&coin.next);
+        self.small = coin.next;
         drawn(coin.refusal, coin.value, coin.used)
     }
 
@@ -59,7 +59,7 @@ impl Random {
     #[inline]
     pub fn uniform(&mut self, low: f64, high: f64) -> Result<f64, Refusal> {
         let drawn = exports::vrd_uniform(self.small, &mut self.table, low, high);
-        self.moves_to(&drawn.next);
+        self.small = drawn.next;
         Refusal::or(drawn.refusal, drawn.word)
     }
 }

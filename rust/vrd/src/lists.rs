@@ -37,7 +37,7 @@ impl Random {
     #[inline]
     pub fn choose(&mut self, list: &[u32], budget: u32) -> Result<Drawn<Bottle>, Refusal> {
         let chosen = exports::choose(self.small, &mut self.table, list, budget);
-        self.moves_to(&chosen.next);
+        self.small = chosen.next;
         drawn(chosen.refusal, Bottle { place: chosen.place, number: chosen.value }, chosen.used)
     }
 
@@ -47,7 +47,7 @@ impl Random {
     #[inline]
     pub fn rand_slice<'a>(&mut self, list: &'a [u32], window: usize, budget: u32) -> Result<Drawn<&'a [u32]>, Refusal> {
         let started = exports::rand_slice(self.small, &mut self.table, list, window, budget);
-        self.moves_to(&started.next);
+        self.small = started.next;
         drawn(started.refusal, part(list, started.start, window), started.used)
     }
 
@@ -58,7 +58,7 @@ impl Random {
     #[inline]
     pub fn shuffle(&mut self, list: &mut [u32], budget: u32) -> Result<Drawn<()>, Refusal> {
         let ordered = exports::shuffle(self.small, &mut self.table, list, budget);
-        self.moves_to(&ordered.next);
+        self.small = ordered.next;
         drawn(ordered.refusal, (), ordered.used)
     }
 }

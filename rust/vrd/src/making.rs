@@ -4,7 +4,7 @@ use crate::exports::{self, Table};
 use crate::{Parts, Random, Refusal};
 
 /// What a generator starts from: nothing in the parts that its kind does not use.
-const NO_SMALL: exports::Parts = exports::Parts { kind: 0, mti: 0, w0: 0, w1: 0, w2: 0, w3: 0 };
+const NO_SMALL: exports::Parts = exports::Parts { kind: 0, mti: 0, words: [0; 4] };
 const NO_TABLE: Table = [0; 624];
 
 /// # Makers
@@ -79,7 +79,7 @@ impl Random {
     /// assert_eq!([unit.u64(), unit.u64()], [41943041, 58720359]);
     /// ```
     pub fn from_parts(parts: Parts<'_>) -> Self {
-        let small = |kind, [w0, w1, w2, w3]: [u64; 4]| exports::Parts { kind, mti: 0, w0, w1, w2, w3 };
+        let small = |kind, words| exports::Parts { kind, mti: 0, words };
         match parts {
             Parts::Xoshiro256PlusPlus(words) => Self { small: small(0, words), table: NO_TABLE },
             Parts::MersenneTwister { table, mti } => {

@@ -61,7 +61,7 @@ impl Random {
     /// assert!(Random::from_parts(unit.parts()) == unit);
     /// ```
     pub fn parts(&self) -> Parts<'_> {
-        let exports::Parts { kind, mti, w0, w1, w2, w3 } = self.small;
+        let exports::Parts { kind, mti, words: [w0, w1, w2, w3] } = self.small;
         match kind {
             0 => Parts::Xoshiro256PlusPlus([w0, w1, w2, w3]),
             1 => Parts::MersenneTwister { table: &self.table, mti },
@@ -71,12 +71,6 @@ impl Random {
                 inc: exports::Wide { high: w2, low: w3 }.into(),
             },
         }
-    }
-
-    /// The generator after a call.
-    #[inline]
-    pub(crate) fn moves_to(&mut self, next: &exports::Parts) {
-        exports::replace(&mut self.small, next);
     }
 }
 

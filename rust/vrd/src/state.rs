@@ -33,7 +33,7 @@ impl Random {
     #[inline]
     pub fn seed(&mut self, seed: u32) {
         let moved = exports::vrd_seed(self.small, &mut self.table, seed);
-        self.moves_to(&moved.next);
+        self.small = moved.next;
     }
 
     /// A second generator, of Xoshiro256++ alone: the child has the old state, and this one jumps (2^128 steps, say its
@@ -43,7 +43,7 @@ impl Random {
     #[inline]
     pub fn split(&mut self) -> Result<Self, Refusal> {
         let divided = exports::vrd_split(self.small);
-        self.moves_to(&divided.parent);
+        self.small = divided.parent;
         Refusal::or(divided.refusal, Self { small: divided.child, table: [0; 624] })
     }
 
@@ -57,13 +57,13 @@ impl Random {
     #[inline]
     pub fn set_mti(&mut self, value: u32) {
         let moved = exports::vrd_set_mti(self.small, value);
-        self.moves_to(&moved.next);
+        self.small = moved.next;
     }
 
     /// Renews the twister's table and sets its position to 0; nothing on the other kinds.
     #[inline]
     pub fn twist(&mut self) {
         let moved = exports::vrd_twist(self.small, &mut self.table);
-        self.moves_to(&moved.next);
+        self.small = moved.next;
     }
 }

@@ -33,25 +33,23 @@ impl Random {
     /// The next word of 32 bits; on Xoshiro256++ and Pcg64 the high half of a word of 64.
     #[inline]
     pub fn rand(&mut self) -> u32 {
-        let drawn = exports::vrd_rand(self.small, &mut self.table);
-        self.moves_to(&drawn.next);
-        drawn.word
+        let exports::Parts { kind, mti, words } = &mut self.small;
+        exports::vrd_rand_in_place(*kind, mti, words, &mut self.table).word
     }
 
     /// The next word of 64 bits: one word of Xoshiro256++ and Pcg64, two of the twister (the high half first) and of Pcg32 (the
     /// low half first).
     #[inline]
     pub fn u64(&mut self) -> u64 {
-        let drawn = exports::vrd_u64(self.small, &mut self.table);
-        self.moves_to(&drawn.next);
-        drawn.word
+        let exports::Parts { kind, mti, words } = &mut self.small;
+        exports::vrd_u64_in_place(*kind, mti, words, &mut self.table).word
     }
 
     /// [`Random::u64`], read as a signed number.
     #[inline]
     pub fn i64(&mut self) -> i64 {
         let drawn = exports::vrd_i64(self.small, &mut self.table);
-        self.moves_to(&drawn.next);
+        self.small = drawn.next;
         drawn.word
     }
 
@@ -59,7 +57,7 @@ impl Random {
     #[inline]
     pub fn pseudo(&mut self) -> u32 {
         let drawn = exports::vrd_pseudo(self.small, &mut self.table);
-        self.moves_to(&drawn.next);
+        self.small = drawn.next;
         drawn.word
     }
 
@@ -68,6 +66,6 @@ impl Random {
     #[inline]
     pub fn fill_bytes(&mut self, dest: &mut [u8]) {
         let moved = exports::fill_bytes(self.small, &mut self.table, dest);
-        self.moves_to(&moved.next);
+        self.small = moved.next;
     }
 }

@@ -7,7 +7,7 @@ use vrd::exports as lent;
 fn starts() -> Vec<Generator> {
     let mut table = [0; 624];
     let twister = lent::vrd_mersenne_twister_with_seed(42, &mut table);
-    let parts = |kind, mti| lent::Parts { kind, mti, w0: 1, w1: 2, w2: 3, w3: 4 };
+    let parts = |kind, mti| lent::Parts { kind, mti, words: [1, 2, 3, 4] };
     let twisters = [0, 623, 624, 700].map(|mti| lent::Parts { mti, ..twister });
     let others = [0, 2, 3, 4].map(|kind| parts(kind, 77));
     twisters.into_iter().chain(others).map(|parts| Generator { parts, table }).collect()

@@ -11,7 +11,7 @@ const BYTES: [u8; 100] = [0xA5; 100];
 const TABLE: Table = [0xDEAD_BEEF; 624];
 
 /// The parts before a call.
-const PARTS: Parts = Parts { kind: 0, mti: 77, w0: 11, w1: 22, w2: 33, w3: 44 };
+const PARTS: Parts = Parts { kind: 0, mti: 77, words: [11, 22, 33, 44] };
 
 /// What an export answers: the refusal, the rest as one number (0 where all of it is 0, false or untouched), the generator after.
 type Answer = (u32, u64, Parts);
@@ -37,6 +37,18 @@ const EXPORTS: [Export; 21] = [
     ("vrd_int", |p, t, n| number(port::vrd_int(p, t, 6, 5 + n as i32, n), |value| value as u64)),
     ("vrd_range", |p, t, n| number(port::vrd_range(p, t, 6, 5 + n as i32, n), |value| value as u64)),
     ("vrd_char", |p, t, n| number(port::vrd_char(p, t, n), |value| value.into())),
+    ("vrd_rand_in_place", |mut p, t, _| {
+        let a = port::vrd_rand_in_place(p.kind, &mut p.mti, &mut p.words, t);
+        (a.refusal, a.word.into(), p)
+    }),
+    ("vrd_u64_in_place", |mut p, t, _| {
+        let a = port::vrd_u64_in_place(p.kind, &mut p.mti, &mut p.words, t);
+        (a.refusal, a.word, p)
+    }),
+    ("vrd_bounded_in_place", |mut p, t, n| {
+        let a = port::vrd_bounded_in_place(p.kind, &mut p.mti, &mut p.words, t, n, n);
+        (a.refusal, u64::from(a.value) + u64::from(a.used), p)
+    }),
     ("vrd_choose", |p, t, n| {
         let a = port::choose(p, t, &LIST[..LIST.len().min(n as usize)], n);
         (a.refusal, u64::from(a.value) + u64::from(a.used) + a.place as u64, a.next)
@@ -93,7 +105,7 @@ fn no_kind(row: &mut Row) {
         let position = port::vrd_mti(start);
         row.case((10, 0), (position.refusal, position.mti), || format!("vrd_mti of kind {kind}"));
         let divided = port::vrd_split(start);
-        let zeros = Parts { kind: 0, mti: 0, w0: 0, w1: 0, w2: 0, w3: 0 };
+        let zeros = Parts { kind: 0, mti: 0, words: [0; 4] };
         let found = (divided.refusal, divided.parent, divided.child);
         row.case((10, start, zeros), found, || format!("vrd_split of kind {kind}"));
         for known in 0..4 {
@@ -109,8 +121,8 @@ fn no_kind(row: &mut Row) {
 /// The parts that the kind does not use, of a generator and its table.
 fn unused_parts(p: Parts, table: &Table) -> (Option<(u32, &Table)>, [Option<u64>; 4]) {
     let words = match p.kind {
-        1 => [Some(p.w0), Some(p.w1), Some(p.w2), Some(p.w3)],
-        2 => [None, None, Some(p.w2), Some(p.w3)],
+        1 => p.words.map(Some),
+        2 => [None, None, Some(p.words[2]), Some(p.words[3])],
         _ => [None; 4],
     };
     ((p.kind != 1).then_some((p.mti, table)), words)
@@ -128,8 +140,8 @@ fn unused(row: &mut Row, kind: u32) {
     let divided = port::vrd_split(start);
     row.case(unused_parts(start, &TABLE), unused_parts(divided.parent, &TABLE), || "vrd_split".into());
     let other = match kind {
-        1 => Parts { w0: 1, w1: 2, w2: 3, w3: 4, ..start },
-        2 => Parts { mti: 1, w2: 2, w3: 3, ..start },
+        1 => Parts { words: [1, 2, 3, 4], ..start },
+        2 => Parts { mti: 1, words: [start.words[0], start.words[1], 2, 3], ..start },
         _ => Parts { mti: 1, ..start },
     };
     let others_table = if kind == 1 { TABLE } else { [1; 624] };
