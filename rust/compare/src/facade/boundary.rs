@@ -19,7 +19,7 @@ type Answer = (u32, u64, Parts);
 /// An export with arguments made of a number: of 100 they are good ones, of 0 those that the call refuses.
 type Export = (&'static str, fn(Parts, &mut Table, u32) -> Answer);
 
-const EXPORTS: [Export; 21] = [
+const EXPORTS: [Export; 24] = [
     ("vrd_rand", |p, t, _| word(port::vrd_rand(p, t), |word| word.into())),
     ("vrd_u64", |p, t, _| word(port::vrd_u64(p, t), |word| word)),
     ("vrd_i64", |p, t, _| word(port::vrd_i64(p, t), |word| word as u64)),
