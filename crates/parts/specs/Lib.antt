@@ -8,3 +8,4 @@ pub mod Splitting
 pub mod SplittingLaws
 pub mod Promises
 pub mod PromisesLaws
+pub mod SameLaws

@@ -1,4 +1,5 @@
--- What each export over a lent table promises of its answer and that table: the contracts of src/*_calls, by name.
+-- What the two conversions and each export over a lent table promise of their answer and that table: the contracts of src/boundary.rt and
+-- src/*_calls.rt, by name.
 use mathlib.Core.List.{List}
 use mathlib.Core.Path.{_≡_}
 use Prim.Native.Nat.{ℕ}
@@ -10,6 +11,8 @@ use Rattle.pcg.specs.Pcg64 as pcg64
 use Rattle.wrapping.specs.Wide.{value}
 use Rattle.wrapping.specs.declared.wide.Wide.{Wide}
 use Rattle.xoshiro.specs.Seed as xoshiro
+use Rattle.random.specs.declared.engine.Engine.{Engine}
+use Rattle.vrd_ffi.specs.Boundary.{engineOf, partsWith}
 use Rattle.vrd_ffi.specs.DrawCalls.{boundedAt, charAt, intAt, integer, number, randomRangeAt, uintAt}
 use Rattle.vrd_ffi.specs.FloatCalls.{boolAt, coin, doubleAt, floatAt, number32, number64, uniformAt}
 use Rattle.vrd_ffi.specs.ListCalls.{chooseAt, chosen, fillBytesAt, filled, ordered, randSliceAt, shuffleAt, started}
@@ -33,6 +36,12 @@ use Rattle.vrd_ffi.specs.declared.state_calls.Position.{Position}
 use Rattle.vrd_ffi.specs.declared.word_calls.Signed64.{Signed64}
 use Rattle.vrd_ffi.specs.declared.word_calls.Word32.{Word32}
 use Rattle.vrd_ffi.specs.declared.word_calls.Word64.{Word64}
+
+abbrev pub EnginePromise : Parts → Engine → Type 0
+EnginePromise p r = r ≡ engineOf p
+
+abbrev pub PartsWithPromise : Engine → Parts → Parts → Type 0
+PartsWithPromise e p r = r ≡ partsWith e p
 
 abbrev pub RandPromise : Parts → List ℕ → Word32 → List ℕ → Type 0
 RandPromise p mt r mt′ = word32 r mt′ ≡ randAt p mt

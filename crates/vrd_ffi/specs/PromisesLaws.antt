@@ -6,7 +6,8 @@ use Prim.Native.Nat.{ℕ}
 use lib.Ieee.{Float}
 use lib.IntN.{ℤ}
 use Rattle.wrapping.specs.declared.wide.Wide.{Wide}
-use Rattle.vrd_ffi.specs.Promises.{BoolPromise, BoundedPromise, CharPromise, ChoosePromise, DoublePromise, FillBytesPromise, FloatPromise, I64Promise, IntPromise, MakePromise, MersenneTwisterWithSeedPromise, MtiPromise, Pcg32WithSeedPromise, Pcg32WithStreamPromise, Pcg64WithSeedPromise, Pcg64WithStreamPromise, PseudoPromise, RandPromise, RandSlicePromise, RandomRangePromise, RangePromise, SamePromise, SeedPromise, SetMtiPromise, ShufflePromise, SplitPromise, TwistPromise, U64Promise, UintPromise, UniformPromise, XoshiroWithSeedPromise}
+use Rattle.random.specs.declared.engine.Engine.{Engine}
+use Rattle.vrd_ffi.specs.Promises.{BoolPromise, BoundedPromise, CharPromise, ChoosePromise, DoublePromise, EnginePromise, FillBytesPromise, FloatPromise, I64Promise, IntPromise, MakePromise, MersenneTwisterWithSeedPromise, MtiPromise, PartsWithPromise, Pcg32WithSeedPromise, Pcg32WithStreamPromise, Pcg64WithSeedPromise, Pcg64WithStreamPromise, PseudoPromise, RandPromise, RandSlicePromise, RandomRangePromise, RangePromise, SamePromise, SeedPromise, SetMtiPromise, ShufflePromise, SplitPromise, TwistPromise, U64Promise, UintPromise, UniformPromise, XoshiroWithSeedPromise}
 use Rattle.vrd_ffi.specs.ReadBack.{begun-back, chosen-back, coin-back, divided-back, filled-back, integer-back, made-back, moved-back, number-back, number32-back, number64-back, ordered-back, placed-back, same-back, signed64-back, started-back, unlent-back, word32-back, word64-back}
 use Rattle.vrd_ffi.specs.declared.boundary.Parts.{Parts}
 use Rattle.vrd_ffi.specs.declared.draw_calls.Integer.{Integer}
@@ -25,6 +26,12 @@ use Rattle.vrd_ffi.specs.declared.state_calls.Position.{Position}
 use Rattle.vrd_ffi.specs.declared.word_calls.Signed64.{Signed64}
 use Rattle.vrd_ffi.specs.declared.word_calls.Word32.{Word32}
 use Rattle.vrd_ffi.specs.declared.word_calls.Word64.{Word64}
+
+pub one-engine : (p : Parts) {a b : Engine} → EnginePromise p a → EnginePromise p b → a ≡ b
+one-engine p h k = h ∙ sym k
+
+pub one-parts-with : (e : Engine) (p : Parts) {a b : Parts} → PartsWithPromise e p a → PartsWithPromise e p b → a ≡ b
+one-parts-with e p h k = h ∙ sym k
 
 pub one-rand : (p : Parts) (mt : List ℕ) {a b : Word32} {mt₁ mt₂ : List ℕ} → RandPromise p mt a mt₁ → RandPromise p mt b mt₂ → (a ≡ b) × (mt₁ ≡ mt₂)
 one-rand p mt h k = word32-back (h ∙ sym k)

@@ -1,6 +1,7 @@
 // The generator as a caller of another language holds it, beside its table; and the only two conversions there are.
 ghost use mathlib.Core.Path.{_≡_};
-ghost use Rattle.vrd_ffi.specs.Boundary.{engineOf, partsWith, zeroParts};
+ghost use Rattle.vrd_ffi.specs.Boundary.{zeroParts};
+ghost use Rattle.vrd_ffi.specs.Promises.{EnginePromise, PartsWithPromise};
 use pcg::Pcg32;
 use pcg::Pcg64;
 use random::Backend;
@@ -29,7 +30,7 @@ pub struct Generator {
 
 // The engine of these parts; kinds above 3 are not asked for.
 pub fn engine(p: Parts) -> Engine
-    ensures { λ r. ⌜ r ≡ engineOf p ⌝ }
+    ensures { λ r. ⌜ EnginePromise p r ⌝ }
 {
     if p.kind == 0 {
         let x = Xoshiro256PlusPlus::from_parts(p.w0, p.w1, p.w2, p.w3);
@@ -56,7 +57,7 @@ pub fn engine(p: Parts) -> Engine
 
 // The parts of an engine; the words that its kind does not use are those of p.
 pub fn parts_with(e: Engine, p: Parts) -> Parts
-    ensures { λ r. ⌜ r ≡ partsWith e p ⌝ }
+    ensures { λ r. ⌜ PartsWithPromise e p r ⌝ }
 {
     let mti = e.mti;
     let backend = e.backend;
@@ -97,7 +98,7 @@ pub fn parts_with(e: Engine, p: Parts) -> Parts
 }
 
 // Kind 0 with four zero words.
-pub fn zero_parts() -> Parts
+pub(crate) fn zero_parts() -> Parts
     ensures { λ r. ⌜ r ≡ zeroParts ⌝ }
 {
     Parts {

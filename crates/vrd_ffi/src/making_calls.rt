@@ -21,7 +21,7 @@ pub struct Made {
 }
 
 // A generator without its table.
-pub fn parts_of(g: Random) -> Parts
+pub(crate) fn parts_of(g: Random) -> Parts
     ensures { λ r. ⌜ r ≡ partsOf g ⌝ }
 {
     parts_with(engine_of(g), zero_parts())

@@ -1,0 +1,56 @@
+-- When a making of bytes is refused: with 10 exactly where the kind is above 3, with 11 exactly where a kind's seed has not its length, and then
+-- kind 0 with four zero words is handed out.
+-- Assumes nothing.
+use mathlib.Core.List.{List}
+use mathlib.Core.Path.{_≡_, sym, _∙_, ap}
+use Prim.Native.Nat.{ℕ, _≤_, _<_}
+use native.Mathlib.Decide.{decLe}
+use native.Mathlib.Nat.{lt-of-not-le}
+use native.Mathlib.Omega.{arith}
+use borrow.Author.Tests.{le-leb, lt-leb, eq-eqb, ne-eqb}
+use lib.Dec.{eqb}
+use lib.ListN.{length}
+use mathlib.Core.Bool.{Bool, true, false, cond}
+use Rattle.random.specs.declared.backend.Random.{Random}
+use Rattle.words.specs.Refusal as refusal
+use Rattle.making.specs.declared.bytes.Made.{Made}
+use Rattle.making.specs.Make.{seedLengthOf, ofKind, refusedMaking, madeBytes}
+
+module _ (kind : ℕ) (s : List ℕ) where
+  -- ---- the three ways out
+
+  pub made-unknown : 3 < kind → madeBytes kind s ≡ refusedMaking refusal.kind
+  unfolding madeBytes
+  made-unknown h = rw (lt-leb kind 3 h)
+
+  pub made-other-length : kind ≤ 3 → (length s ≡ seedLengthOf kind → ⊥) → madeBytes kind s ≡ refusedMaking refusal.seedLength
+  unfolding madeBytes
+  made-other-length h n = rw (le-leb kind 3 h, ne-eqb (length s) (seedLengthOf kind) n)
+
+  pub made-whole : kind ≤ 3 → length s ≡ seedLengthOf kind → madeBytes kind s ≡ record { refusal = refusal.answered; generator = ofKind kind s }
+  unfolding madeBytes
+  made-whole h e = rw (le-leb kind 3 h, eq-eqb (length s) (seedLengthOf kind) e)
+
+  -- ---- and each of them only then
+
+  number : {m : Made} → madeBytes kind s ≡ m → madeBytes kind s .refusal ≡ m .refusal
+  number e = ap (λ (m : Made). m .refusal) e
+
+  known : (whole : Bool) (g : Random) → cond whole (record { refusal = refusal.answered; generator = g }) (refusedMaking refusal.seedLength) .refusal ≡ refusal.kind → ⊥
+  known true g e = omega (arith, e)
+  known false g e = omega (arith, e)
+
+  pub refused-with-kind : madeBytes kind s .refusal ≡ refusal.kind → 3 < kind
+  unfolding madeBytes
+  refused-with-kind e =
+      elim (decLe kind 3) [
+        | no h ↦ lt-of-not-le h
+        | yes h ↦ absurd (known (eqb (length s) (seedLengthOf kind)) (ofKind kind s) (rw (le-leb kind 3 h) at e))
+      ]
+
+  pub refused-with-length : madeBytes kind s .refusal ≡ refusal.seedLength → (kind ≤ 3) × (length s ≡ seedLengthOf kind → ⊥)
+  refused-with-length e =
+      elim (decLe kind 3) [
+        | no h ↦ let z = sym e ∙ number (made-unknown (lt-of-not-le h)) in absurd (omega (arith, z))
+        | yes h ↦ (h, λ q. let z = sym e ∙ number (made-whole h q) in omega (arith, z))
+      ]
