@@ -1,4 +1,4 @@
-// The examples that fill five bytes: from one word of 64 bits, and from two of 32.
+// The examples that fill five bytes, from one word of 64 bits and from two of 32; and the slip of filling three bytes twice for six.
 use crate::examples;
 use crate::given;
 use crate::report;
@@ -59,6 +59,43 @@ fn of_kind_1(t: Tally) -> Tally {
     report::judged_with(t, are_said(&bytes), after.mti == examples::STEPS_OF_KIND_1)
 }
 
+fn tell_three(bytes: &[u8; 3]) {
+    tell_byte(bytes[0]);
+    tell_byte(bytes[1]);
+    tell_byte(bytes[2]);
+}
+
+fn are_three(bytes: &[u8; 3], a: u8, b: u8, c: u8) -> bool {
+    if bytes[0] != a {
+        return false;
+    }
+    if bytes[1] != b {
+        return false;
+    }
+    bytes[2] == c
+}
+
+// A short tail uses a whole word: so the second three bytes begin with the second word, and not where filling six goes on.
+fn three_twice(t: Tally) -> Tally {
+    let mut mt = [0u32; 624];
+    let mut first = [0u8; 3];
+    let mut second = [0u8; 3];
+    let mut six = [0u8; 6];
+    let given = given::set_words(&mut mt, 0x0403_0201, 0x0807_0605, 0);
+    filling::fill_bytes_in(given::twister(), &mut mt, &mut six);
+    let between = filling::fill_bytes_in(given::twister(), &mut mt, &mut first);
+    filling::fill_bytes_in(between, &mut mt, &mut second);
+    telling::text(b"three bytes of kind 1, twice:");
+    tell_three(&first);
+    tell_three(&second);
+    telling::text(b", and not the last three of six at once");
+    if !given {
+        return report::judged(t, false);
+    }
+    let goes_on = are_three(&second, six[3], six[4], six[5]);
+    report::judged_with(t, are_three(&first, six[0], six[1], six[2]), !goes_on)
+}
+
 pub(crate) fn run(t: Tally) -> Tally {
-    of_kind_1(of_kind_0(t))
+    three_twice(of_kind_1(of_kind_0(t)))
 }

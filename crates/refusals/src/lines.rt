@@ -25,7 +25,7 @@ const LINES: [Line; 12] = [
     Line(12, Call::Seed, 2, GENERATORS, 2),
     Line(12, Call::SetMti, 2, GENERATORS, 2),
     Line(12, Call::FillBytes, 1, GENERATORS, 2),
-    Line(12, Call::WindowOf, 12, 1, 1),
+    Line(12, Call::WindowOf, 15, 1, 1),
     Line(13, Call::Bounded, 1, 4, 2),
 ];
 

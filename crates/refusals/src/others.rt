@@ -106,7 +106,7 @@ struct Part(usize, usize, usize, usize);
 
 const M64: usize = 0xFFFF_FFFF_FFFF_FFFF;
 
-const PARTS: [Part; 12] = [
+const PARTS: [Part; 15] = [
     Part(0, 0, 0, 0),
     Part(0, 0, 1, 0),
     Part(0, M64, M64, 0),
@@ -119,6 +119,9 @@ const PARTS: [Part; 12] = [
     Part(3, 0, M64, 0),
     Part(3, M64, 0, 0),
     Part(3, M64, M64, 0),
+    Part(65537, 0, 65537, 65537),
+    Part(65537, 65535, 2, 2),
+    Part(65537, 65536, 2, 0),
 ];
 
 // Whether the part has so many entries, and those of the list from the start on.
@@ -143,9 +146,13 @@ fn is_part(list: &[u32], start: usize, window: usize, count: usize) -> bool {
 pub(crate) fn part_is_as_ordered(case: usize) -> bool {
     let list = [31u32, 32, 33];
     let nothing = [0u32; 0];
-    let p = PARTS[case % 12];
+    let long = [34u32; 65537];
+    let p = PARTS[case % 15];
     if p.0 == 0 {
         return is_part(&nothing, p.1, p.2, p.3);
+    }
+    if p.0 == 65537 {
+        return is_part(&long, p.1, p.2, p.3);
     }
     is_part(&list, p.1, p.2, p.3)
 }

@@ -10,6 +10,7 @@ mod seeds;
 mod subject;
 mod tally;
 mod twister;
+mod wrapping;
 mod xoshiro;
 
 use std::process::ExitCode;
@@ -22,6 +23,7 @@ const STEP_WORDS: u64 = 1_000_000;
 
 fn main() -> ExitCode {
     let mut tally = tally::Tally::default();
+    wrapping::compare(&mut tally);
     xoshiro::compare(&mut tally);
     pcg32::compare(&mut tally);
     pcg64::compare(&mut tally);

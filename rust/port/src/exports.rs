@@ -51,6 +51,17 @@ pub struct Placed<W> {
 }
 
 unsafe extern "C" {
+    pub safe fn wrapping_mul_u32(a: u32, b: u32) -> u32;
+    pub safe fn wrapping_mul_u64(a: u64, b: u64) -> u64;
+    pub safe fn wrapping_rotate_left_u32(x: u32, k: u32) -> u32;
+    pub safe fn wrapping_rotate_right_u32(x: u32, k: u32) -> u32;
+    pub safe fn wrapping_rotate_left_u64(x: u64, k: u32) -> u64;
+    pub safe fn wrapping_rotate_right_u64(x: u64, k: u32) -> u64;
+    pub safe fn wrapping_add_wide(a: Wide, b: Wide) -> Wide;
+    pub safe fn wrapping_mul_wide(a: Wide, b: Wide) -> Wide;
+}
+
+unsafe extern "C" {
     pub safe fn xoshiro_from_u64_seed(seed: u64) -> Xoshiro256PlusPlus;
     pub safe fn xoshiro_from_seed(seed: &[u8; 32]) -> Xoshiro256PlusPlus;
     pub safe fn xoshiro_next_u64(g: Xoshiro256PlusPlus) -> Drawn<u64, Xoshiro256PlusPlus>;
