@@ -104,7 +104,9 @@ fn settle_in_place(
     }
 }
 
-// The first word settles nearly every draw: where it is good the generator moves by it, and otherwise nothing has moved yet.
+// The first word settles nearly every draw: where it is ready and good the generator moves by it, and otherwise nothing has moved yet. What is
+// seldom stands in a function of its own, called from two places, so that the compiler leaves it there; and its answer is taken apart,
+// so that the answer which is common stays in registers.
 #[no_mangle]
 pub extern "C" fn vrd_bounded_in_place(
     kind: u32,
@@ -127,8 +129,19 @@ pub extern "C" fn vrd_bounded_in_place(
                         used: 1,
                     };
                 }
+                let a = settle_in_place(kind, mti, small, mt, r, budget);
+                return MovedNumber {
+                    refusal: a.refusal,
+                    value: a.value,
+                    used: a.used,
+                };
             }
         }
     }
-    settle_in_place(kind, mti, small, mt, r, budget)
+    let a = settle_in_place(kind, mti, small, mt, r, budget);
+    MovedNumber {
+        refusal: a.refusal,
+        value: a.value,
+        used: a.used,
+    }
 }

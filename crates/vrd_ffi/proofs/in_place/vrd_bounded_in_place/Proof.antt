@@ -34,6 +34,12 @@ settle-in-place-requires c κs = search needs
 returns-2 : tie.Need-returns-2
 returns-2 c = search needs
 
+settle-in-place-requires-2 : tie.Need-settle-in-place-requires-2
+settle-in-place-requires-2 c κs = search needs
+
+returns-3 : tie.Need-returns-3
+returns-3 c = search needs
+
 pub vrd-bounded-in-place-spec : {M : Type 1} → statement M
 vrd-bounded-in-place-spec =
     tie.close
@@ -44,4 +50,6 @@ vrd-bounded-in-place-spec =
     quotient-requires
     returns
     settle-in-place-requires
-    returns-2)
+    returns-2
+    settle-in-place-requires-2
+    returns-3)
