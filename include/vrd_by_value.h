@@ -1,5 +1,5 @@
 /* The calls of vrd.h by value: the generator holds its table, goes in whole and comes back as `next`. Each answers what the call over a lent
- * table answers. They copy 2.5 KB in and out, some 100 ns; where that counts, take the calls of vrd.h. */
+ * table answers. They copy 2.5 KB in and out; where that counts, take the calls of vrd.h. */
 #ifndef VRD_BY_VALUE_H
 #define VRD_BY_VALUE_H
 
