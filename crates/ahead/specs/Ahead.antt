@@ -1,5 +1,4 @@
 -- The next words of a generator, put into a block from its first entry on.
--- Assumes nothing.
 use mathlib.Core.Path.{_≡_}
 use mathlib.Core.Bool.{cond}
 use mathlib.Core.List.{List}
@@ -13,7 +12,8 @@ use Rattle.pcg.specs.declared.pcg32.Pcg32 as pcg32-type
 use Rattle.pcg.specs.declared.pcg64.Pcg64 as pcg64-type
 use Rattle.xoshiro.specs.declared.Xoshiro256PlusPlus as xoshiro-type
 use Rattle.random.specs.declared.backend.Backend.the-variants.{Xoshiro256PlusPlus, MersenneTwister, Pcg32, Pcg64}
-use Rattle.random.specs.Generator.{Gen, gen, advance, wordsOf}
+use Rattle.random.specs.declared.backend.Random.{Random}
+use Rattle.random.specs.Generator.{gen, later, wordsOf}
 
 -- how many words a block takes, where n are asked for
 abbrev pub atMost : ℕ → ℕ
@@ -25,9 +25,9 @@ placed s zero l = l
 placed s (suc n) l = set (placed s n l) n (s n)
 
 -- n words of the generator g were put into the block l, which became l′, and h is the generator after them.
-pub record WordsPut (g : Gen) (n : ℕ) (l l′ : List ℕ) (h : Gen) : Type 0 where
+pub record WordsPut (g : Random) (n : ℕ) (l l′ : List ℕ) (h : Random) : Type 0 where
   pub words : l′ ≡ placed (wordsOf g) n l
-  pub moved : h ≡ advance n g
+  pub moved : h ≡ later n g
 
 -- The same of each kind. The twister beside another kind may be any.
 abbrev pub XoshiroPut : xoshiro-type.Xoshiro256PlusPlus → ℕ → List ℕ → List ℕ → xoshiro-type.Xoshiro256PlusPlus → Type 0

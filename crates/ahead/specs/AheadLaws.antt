@@ -1,5 +1,4 @@
 -- The laws of words put into a block: one law for each way through the loops, what a block holds, and that there is one answer.
--- Assumes nothing.
 use mathlib.Core.Path.{_≡_, refl, sym, _∙_, ap}
 use mathlib.Core.Bool.{Bool, true, false, cond}
 use mathlib.Core.List.{List}
@@ -24,21 +23,22 @@ use Rattle.xoshiro.specs.Generator as xoshiro
 use Rattle.xoshiro.specs.declared.Drawn32 as xoshiro-drawn
 use Rattle.xoshiro.specs.declared.Xoshiro256PlusPlus as xoshiro-type
 use Rattle.random.specs.declared.backend.Backend.the-variants.{Xoshiro256PlusPlus, MersenneTwister, Pcg32, Pcg64}
-use Rattle.random.specs.Generator.{Gen, gen, wordOf, step}
-use Rattle.random.specs.GeneratorLaws.{advance-none, advance-one, word-at}
+use Rattle.random.specs.declared.backend.Random.{Random}
+use Rattle.random.specs.Generator.{gen, wordOf, step}
+use Rattle.random.specs.GeneratorLaws.{later-none, later-one, word-at}
 use Rattle.ahead.specs.Ahead.{atMost, placed, WordsPut, XoshiroPut, Pcg32Put, Pcg64Put, TwisterPut}
 
 -- ---- the loop: no word yet, and one more
 
-pub put-none : {g : Gen} {l : List ℕ} → WordsPut g 0 l l g
+pub put-none : {g : Random} {l : List ℕ} → WordsPut g 0 l l g
 unfolding placed
-put-none {g} = record { words = refl; moved = sym (advance-none g) }
+put-none {g} = record { words = refl; moved = sym (later-none g) }
 
-pub put-more : {g h h′ : Gen} {n w : ℕ} {l l′ : List ℕ} → WordsPut g n l l′ h → w ≡ wordOf h → h′ ≡ step h → WordsPut g (n + 1) l (set l′ n w) h′
+pub put-more : {g h h′ : Random} {n w : ℕ} {l l′ : List ℕ} → WordsPut g n l l′ h → w ≡ wordOf h → h′ ≡ step h → WordsPut g (n + 1) l (set l′ n w) h′
 unfolding placed
 put-more {g} {n = n} p e q = record {
   words = rw (add-one, p .words, e, p .moved, word-at n g);
-  moved = q ∙ ap step (p .moved) ∙ sym (advance-one n g);
+  moved = q ∙ ap step (p .moved) ∙ sym (later-one n g);
 }
 
 -- one more of each kind, as the kind's own call draws it
@@ -93,5 +93,5 @@ at-most-few n h = go (ltb n 16) refl
 
 -- ---- one answer
 
-pub one-block : {g : Gen} {n : ℕ} {l l′ l″ : List ℕ} {h h′ : Gen} → WordsPut g n l l′ h → WordsPut g n l l″ h′ → (l′ ≡ l″) × (h ≡ h′)
+pub one-block : {g : Random} {n : ℕ} {l l′ l″ : List ℕ} {h h′ : Random} → WordsPut g n l l′ h → WordsPut g n l l″ h′ → (l′ ≡ l″) × (h ≡ h′)
 one-block p q = (p .words ∙ sym (q .words), p .moved ∙ sym (q .moved))

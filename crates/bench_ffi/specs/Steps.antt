@@ -1,5 +1,4 @@
 -- Words in a row of any generator: A is its state, `step` the state after one, and `word` what a state gives.
--- Assumes nothing.
 use mathlib.Core.Path.{_≡_, refl, _∙_, ap, ap₂}
 use Prim.Native.Nat.{ℕ, zero, suc, _+_}
 use native.Mathlib.Numerals.{add-one}

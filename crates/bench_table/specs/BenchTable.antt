@@ -1,6 +1,5 @@
 -- The marked bench examples of document 01: one table, one theorem, of the definitions over given words. Draws below a bound, `int`, the
 -- shuffle, floats and filled bytes each have their rows beside their definitions; here they are joined.
--- Assumes nothing.
 use mathlib.Core.List.{List, _++_}
 use Rattle.filling.specs.FillBench.{fillBench, fill-bench-holds}
 use Rattle.floats.specs.Bench.{floatBench, float-bench-holds}

@@ -1,6 +1,5 @@
 -- What holds of every budgeted call, said once: of its outcome as a function of the words and the budget, and of its answers. A call is a draw,
 -- or another call whose value is worked on, or one that refuses its arguments first.
--- Assumes nothing.
 use mathlib.Core.Path.{_≡_, refl, sym, _∙_, ap}
 use mathlib.Core.Bool.{Bool, true, false, cond}
 use Prim.Native.Nat.{ℕ, _+_, _-_, _≤_}
@@ -13,9 +12,8 @@ use Rattle.words.specs.OneOutcome.{Bounded, zero-range, answers, out-of-budget,
 use Rattle.words.specs.LargerBudget.{bounded-larger}
 use Rattle.words.specs.UsedWithinBudget.{bounded-within}
 use Rattle.random.specs.declared.backend.Random.{Random}
-use Rattle.random.specs.Generator.{Gen, wordsOf}
+use Rattle.random.specs.Generator.{wordsOf}
 use Rattle.bounded.specs.Answers as answer
-use Rattle.bounded.specs.Answers.{wordsFrom, answeredIn}
 use Rattle.bounded.specs.Ranges.{raised, rangeBy, charBy}
 
 pub record Budgeted (call : Words → ℕ → Outcome) : Type 0 where
@@ -92,12 +90,9 @@ pub char-budgeted : Budgeted charBy
 unfolding charBy
 char-budgeted = raised-budgeted 97 (bounded-budgeted 26)
 
--- ---- and so of the answers, by value and over a lent table: value, words used and next generator stay as the budget grows
+-- ---- and so of the answers: value, words used and next generator stay as the budget grows
 
 module _ {call : Words → ℕ → Outcome} (d : Budgeted call) (b b′ : ℕ) (h : b ≤ b′) where
-  pub answer-larger : (g : Random) → call (wordsFrom g) b .refusal ≡ answered
-      → answer.answered g (call (wordsFrom g) b′) ≡ answer.answered g (call (wordsFrom g) b)
-  answer-larger g a = ap (answer.answered g) (d .larger (wordsFrom g) b b′ h a)
-
-  pub answer-larger-in : (g : Gen) → call (wordsOf g) b .refusal ≡ answered → answeredIn g (call (wordsOf g) b′) ≡ answeredIn g (call (wordsOf g) b)
-  answer-larger-in g a = ap (answeredIn g) (d .larger (wordsOf g) b b′ h a)
+  pub answer-larger : (g : Random) → call (wordsOf g) b .refusal ≡ answered
+      → answer.answered g (call (wordsOf g) b′) ≡ answer.answered g (call (wordsOf g) b)
+  answer-larger g a = ap (answer.answered g) (d .larger (wordsOf g) b b′ h a)

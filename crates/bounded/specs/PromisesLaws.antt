@@ -1,18 +1,14 @@
 -- Each promise leaves one answer: two that both meet it are equal.
--- Assumes nothing.
 use mathlib.Core.Bool.{Bool}
 use mathlib.Core.List.{List}
 use mathlib.Core.Path.{_≡_, sym, _∙_}
 use Prim.Native.Nat.{ℕ}
-use Rattle.random.specs.Generator.{wordsOf}
-use Rattle.random.specs.Lent.{lent}
+use Rattle.random.specs.Lent.{joinedWith}
 use Rattle.random.specs.declared.backend.Backend.{Backend}
 use Rattle.random.specs.declared.backend.Random.{Random}
 use Rattle.random.specs.declared.engine.Engine.{Engine}
-use Rattle.words.specs.Draw.{boundedBy}
-use Rattle.bounded.specs.OneAnswer.{one-answer-in, one-try}
+use Rattle.bounded.specs.OneAnswer.{answer-apart, one-try}
 use Rattle.bounded.specs.Promises.{AcceptInPromise, BoundedInPromise, BoundedPromise, CharInPromise, CharPromise, DrawInPromise, JoinedPromise, OnTablePromise, RaiseInPromise, RandomRangeInPromise, RandomRangePromise, RefuseInPromise}
-use Rattle.bounded.specs.Ranges.{charBy, rangeBy}
 use Rattle.bounded.specs.declared.answers.Answer.{Answer}
 use Rattle.bounded.specs.declared.answers.EngineAnswer.{EngineAnswer}
 use Rattle.bounded.specs.declared.draw.Tried.{Tried}
@@ -32,23 +28,23 @@ one-joined a mt p q = p ∙ sym q
 pub one-on-table : (backend : Backend) {a b : Bool} → OnTablePromise backend a → OnTablePromise backend b → a ≡ b
 one-on-table backend p q = p ∙ sym q
 
-pub one-bounded-in : (e : Engine) (mt : List ℕ) (r budget : ℕ) {a b : EngineAnswer} {mt₁ mt₂ : List ℕ} → BoundedInPromise e mt r budget a mt₁ → BoundedInPromise e mt r budget b mt₂ → (a ≡ b) × (mt₁ ≡ mt₂)
-one-bounded-in e mt r budget p q = one-answer-in (lent e mt) (boundedBy (wordsOf (lent e mt)) r budget) p q
-
 pub one-bounded : (g : Random) (r budget : ℕ) {a b : Answer} → BoundedPromise g r budget a → BoundedPromise g r budget b → a ≡ b
 one-bounded g r budget p q = p ∙ sym q
+
+pub one-bounded-in : (e : Engine) (mt : List ℕ) (r budget : ℕ) {a b : EngineAnswer} {mt₁ mt₂ : List ℕ} → BoundedInPromise e mt r budget a mt₁ → BoundedInPromise e mt r budget b mt₂ → (a ≡ b) × (mt₁ ≡ mt₂)
+one-bounded-in e mt r budget p q = answer-apart (one-bounded (joinedWith e mt) r budget p q)
 
 pub one-draw-in : (e : Engine) (mt : List ℕ) (r budget : ℕ) {a b : Tried} {mt₁ mt₂ : List ℕ} → DrawInPromise e mt r budget a mt₁ → DrawInPromise e mt r budget b mt₂ → (a ≡ b) × (mt₁ ≡ mt₂)
 one-draw-in e mt r budget p q = one-try p q
 
-pub one-random-range-in : (e : Engine) (mt : List ℕ) (min max budget : ℕ) {a b : EngineAnswer} {mt₁ mt₂ : List ℕ} → RandomRangeInPromise e mt min max budget a mt₁ → RandomRangeInPromise e mt min max budget b mt₂ → (a ≡ b) × (mt₁ ≡ mt₂)
-one-random-range-in e mt min max budget p q = one-answer-in (lent e mt) (rangeBy (wordsOf (lent e mt)) min max budget) p q
-
 pub one-random-range : (g : Random) (min max budget : ℕ) {a b : Answer} → RandomRangePromise g min max budget a → RandomRangePromise g min max budget b → a ≡ b
 one-random-range g min max budget p q = p ∙ sym q
 
-pub one-char-in : (e : Engine) (mt : List ℕ) (budget : ℕ) {a b : EngineAnswer} {mt₁ mt₂ : List ℕ} → CharInPromise e mt budget a mt₁ → CharInPromise e mt budget b mt₂ → (a ≡ b) × (mt₁ ≡ mt₂)
-one-char-in e mt budget p q = one-answer-in (lent e mt) (charBy (wordsOf (lent e mt)) budget) p q
+pub one-random-range-in : (e : Engine) (mt : List ℕ) (min max budget : ℕ) {a b : EngineAnswer} {mt₁ mt₂ : List ℕ} → RandomRangeInPromise e mt min max budget a mt₁ → RandomRangeInPromise e mt min max budget b mt₂ → (a ≡ b) × (mt₁ ≡ mt₂)
+one-random-range-in e mt min max budget p q = answer-apart (one-random-range (joinedWith e mt) min max budget p q)
 
 pub one-char : (g : Random) (budget : ℕ) {a b : Answer} → CharPromise g budget a → CharPromise g budget b → a ≡ b
 one-char g budget p q = p ∙ sym q
+
+pub one-char-in : (e : Engine) (mt : List ℕ) (budget : ℕ) {a b : EngineAnswer} {mt₁ mt₂ : List ℕ} → CharInPromise e mt budget a mt₁ → CharInPromise e mt budget b mt₂ → (a ≡ b) × (mt₁ ≡ mt₂)
+one-char-in e mt budget p q = answer-apart (one-char (joinedWith e mt) budget p q)

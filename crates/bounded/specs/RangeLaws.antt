@@ -1,5 +1,4 @@
 -- The definitions of Ranges by their cases, for code that works them out.
--- Assumes nothing.
 use mathlib.Core.Path.{_≡_}
 use Prim.Native.Nat.{ℕ, _-_, _≤_, _<_}
 use borrow.Author.Tests.{le-leb, lt-leb}

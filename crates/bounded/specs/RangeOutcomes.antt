@@ -1,6 +1,5 @@
 -- Exactly one outcome for `random_range` and `char`, said as a relation in the documents' words: when each is refused, and with which number;
 -- and between which numbers an answer lies.
--- Assumes nothing.
 use mathlib.Core.Path.{_≡_, refl, _∙_, ap}
 use mathlib.Core.Logic.{_↔_}
 use native.Mathlib.Decide.{decLe}

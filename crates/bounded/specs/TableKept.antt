@@ -1,4 +1,4 @@
--- The kinds that leave the twister's table as it came, at every word. Assumes nothing.
+-- The kinds that leave the twister's table as it came, at every word.
 use mathlib.Core.Path.{_≡_, refl, _∙_, ap}
 use mathlib.Core.Bool.{Bool, true, false, true≢false}
 use mathlib.Core.List.{List}
@@ -6,8 +6,9 @@ use Prim.Native.Nat.{ℕ, zero, suc}
 use Rattle.mersenne_twister.specs.declared.MersenneTwister as twister-type
 use Rattle.random.specs.declared.backend.Backend.{Backend}
 use Rattle.random.specs.declared.backend.Backend.the-variants.{Xoshiro256PlusPlus, MersenneTwister, Pcg32, Pcg64}
-use Rattle.random.specs.Generator.{Gen, stepBy, step, advance}
-use Rattle.random.specs.Lent.{lent}
+use Rattle.random.specs.declared.backend.Random.{Random}
+use Rattle.random.specs.Generator.{stepBy, step, later}
+use Rattle.random.specs.Lent.{joinedWith}
 use Rattle.random.specs.declared.engine.Engine.{Engine}
 
 -- whether a kind draws from the table
@@ -24,13 +25,13 @@ kept-by MersenneTwister t h = absurd (true≢false h)
 kept-by (Pcg32 p) t h = (refl, refl)
 kept-by (Pcg64 p) t h = (refl, refl)
 
-kept-after : (n : ℕ) (g : Gen) → onTable (g .backend) ≡ false → (onTable (advance n g .backend) ≡ false) × (advance n g .twister ≡ g .twister)
-unfolding advance step
+kept-after : (n : ℕ) (g : Random) → onTable (g .backend) ≡ false → (onTable (later n g .backend) ≡ false) × (later n g .twister ≡ g .twister)
+unfolding later step
 kept-after zero g h = (h, refl)
 kept-after (suc n) g h =
     let (still, same) = kept-after n g h in
-    let (on, one) = kept-by (advance n g .backend) (advance n g .twister) still in
+    let (on, one) = kept-by (later n g .backend) (later n g .twister) still in
     (on, one ∙ same)
 
-pub others-keep : {h : Gen} (n : ℕ) (e : Engine) (m : List ℕ) → onTable (e .backend) ≡ false → h ≡ advance n (lent e m) → h .twister .mt ≡ m
-others-keep n e m h q = ap (λ (g : Gen). g .twister .mt) q ∙ ap (λ (t : twister-type.MersenneTwister). t .mt) (kept-after n (lent e m) h .1)
+pub others-keep : {h : Random} (n : ℕ) (e : Engine) (m : List ℕ) → onTable (e .backend) ≡ false → h ≡ later n (joinedWith e m) → h .twister .mt ≡ m
+others-keep n e m h q = ap (λ (g : Random). g .twister .mt) q ∙ ap (λ (t : twister-type.MersenneTwister). t .mt) (kept-after n (joinedWith e m) h .1)

@@ -1,5 +1,4 @@
 -- For code that asks first what the shuffle of n slots is refused with: by its ways out.
--- Assumes nothing.
 use mathlib.Core.Path.{_≡_, refl, sym, _∙_, ap}
 use mathlib.Core.Bool.{Bool, true, false, true≢false}
 use Prim.Native.Nat.{ℕ, _≤_, _<_}

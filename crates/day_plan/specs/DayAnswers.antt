@@ -1,5 +1,4 @@
 -- What the plan of a day over a lent table owes, by its ways out.
--- Assumes nothing.
 use mathlib.Core.Path.{_≡_, sym, _∙_, ap}
 use mathlib.Core.List.{List}
 use Prim.Native.Nat.{ℕ, _≤_}

@@ -1,5 +1,4 @@
 -- "So a larger budget never changes an answer given" (the order, demand 3): the words used, the next generator and the day.
--- Assumes nothing.
 use mathlib.Core.Path.{_≡_, sym, _∙_}
 use mathlib.Core.List.{List}
 use Prim.Native.Nat.{ℕ, _≤_}

@@ -1,6 +1,5 @@
 -- "each inlet to have exactly its share" (the order): in a day that is planned, every inlet stands once, a blank stands in as many slots as there are
 -- blanks, and nothing else stands in any slot.
--- Assumes nothing.
 use mathlib.Core.Path.{_≡_, refl, sym, _∙_, ap}
 use mathlib.Core.List.{List, [], _∷_, _++_, append-nil}
 use Prim.Native.Nat.{ℕ, zero, suc, _+_, _-_, _≤_, _<_, min}

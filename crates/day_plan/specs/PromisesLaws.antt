@@ -1,6 +1,5 @@
 -- Each promise leaves one answer: two that both meet it are equal, and so are the tables and the days that they leave. The next generator is the old
 -- one after the words used.
--- Assumes nothing.
 use mathlib.Core.List.{List}
 use mathlib.Core.Path.{_≡_, sym, _∙_}
 use Prim.Native.Nat.{ℕ}
@@ -9,7 +8,7 @@ use Rattle.bounded.specs.declared.answers.Answer.{Answer}
 use Rattle.bounded.specs.declared.answers.EngineAnswer.{EngineAnswer}
 use Rattle.random.specs.Generator.{advance}
 use Rattle.random.specs.Lent.{lent}
-use Rattle.random.specs.Words.{later}
+use Rattle.random.specs.Generator.{later}
 use Rattle.random.specs.declared.backend.Random.{Random}
 use Rattle.random.specs.declared.engine.Engine.{Engine}
 use Rattle.day_plan.specs.Promises.{PlanDayInPromise, PlanDayPromise}

@@ -1,5 +1,5 @@
 -- The rows of document 01's bench examples, those marked *, that fill bytes from given words, and the slip "Filling 3 bytes twice and expecting
--- the bytes of filling 6". Assumes nothing.
+-- the bytes of filling 6".
 use mathlib.Core.Path.{_≡_, refl, sym, _∙_, ap}
 use mathlib.Core.List.{List, [], _∷_, _++_}
 use Prim.Native.Nat.{ℕ, _+_}

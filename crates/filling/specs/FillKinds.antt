@@ -1,6 +1,5 @@
 -- The whole words that a buffer has room for, kind by kind, as the loop over that kind's small state writes them; and what they are of the
 -- generator that holds the state.
--- Assumes nothing.
 use mathlib.Core.Path.{refl}
 use mathlib.Core.List.{List}
 use Prim.Native.Nat.{ℕ}
@@ -13,7 +12,8 @@ use Rattle.pcg.specs.Pcg64 as pcg64
 use Rattle.xoshiro.specs.declared.Xoshiro256PlusPlus as xoshiro-type
 use Rattle.xoshiro.specs.Generator as xoshiro
 use Rattle.random.specs.declared.backend.Backend.the-variants.{Xoshiro256PlusPlus, MersenneTwister, Pcg32, Pcg64}
-use Rattle.random.specs.Generator.{Gen, gen, widthOf, step, ownWord}
+use Rattle.random.specs.declared.backend.Random.{Random}
+use Rattle.random.specs.Generator.{gen, widthOf, step, ownWord}
 use Rattle.filling.specs.FillLoop.{WholeWords, filling-part}
 
 -- ---- n bytes of room, the state before and after, and the buffer's content
@@ -38,7 +38,7 @@ Pcg64Words n p next bytes = WholeWords pcg64.wordOf pcg64.stepped 8 p n next byt
 
 -- ---- of the generator
 
-abbrev pub WholeOwn : Gen → ℕ → Gen → List ℕ → Type 0
+abbrev pub WholeOwn : Random → ℕ → Random → List ℕ → Type 0
 WholeOwn g n cur bytes = WholeWords ownWord step (widthOf (g .backend)) g n cur bytes
 
 module _ {n : ℕ} {bytes : List ℕ} where

@@ -1,6 +1,5 @@
 -- The laws of filling: a filled buffer keeps its length, its old content matters to nothing, and one content and one next generator are
 -- possible.
--- Assumes nothing.
 use mathlib.Core.Path.{_≡_, refl, sym, _∙_, ap}
 use mathlib.Core.List.{List}
 use Prim.Native.Nat.{ℕ, zero, suc, _+_, _-_, _*_, _/_, _%_, _≤_, _<_}
@@ -10,18 +9,14 @@ use lib.Arith.{digits-div}
 use lib.ListN.{length, getD}
 use lib.Seq.{ext-getD}
 use Rattle.mersenne_twister.specs.SequenceLaws.{length-terms, terms-at}
-use Rattle.random.specs.Generator.{Gen, genOf, widthOf, ownWord, step, advance}
-use Rattle.random.specs.GeneratorLaws.{width-positive}
-use Rattle.filling.specs.Fill.{byteOf, byteIn, bytesFrom, wordsFor, ownWords, filledBytes, fillWords, FilledFrom, fillNext}
+use Rattle.random.specs.declared.backend.Random.{Random}
+use Rattle.random.specs.Generator.{widthOf, ownWord, step, later}
+use Rattle.random.specs.GeneratorLaws.{width-positive, later-none}
+use Rattle.filling.specs.Fill.{byteOf, byteIn, bytesFrom, wordsFor, ownWords, filledBytes, fillWords, FilledFrom}
 use Rattle.filling.specs.FillKinds.{WholeOwn}
 use Rattle.filling.specs.FillLoop.{after, written-more}
 use Rattle.filling.specs.Poke.{poke}
 use Rattle.filling.specs.PokeLaws.{length-poke}
-use Rattle.random.specs.Lent.{lent}
-use Rattle.random.specs.Words.{joinedWith, later}
-use Rattle.random.specs.WordsLaws.{joined-later, later-none}
-use Rattle.random.specs.declared.backend.Random.{Random}
-use Rattle.random.specs.declared.engine.Engine.{Engine}
 
 -- ---- bytes
 
@@ -40,7 +35,7 @@ all-bytes W s n l e f =
     ext-getD 0 l (bytesFrom W s n) (e ∙ sym (length-bytes W s n)) (λ k b. f k (omega arith) ∙ sym (byte-at W s n k (omega arith)))
 
 -- a filled buffer keeps its length
-pub length-filled : (g : Gen) (n : ℕ) → length (filledBytes g n) ≡ n
+pub length-filled : (g : Random) (n : ℕ) → length (filledBytes g n) ≡ n
 unfolding filledBytes
 length-filled g n = length-bytes _ _ n
 
@@ -65,17 +60,17 @@ tail-fits n W = let h : n % W ≤ n = mod-le n W in omega arith
 
 -- ---- a generator as an engine
 
-advance-after : (k : ℕ) (g : Gen) → after step k g ≡ advance k g
-unfolding after advance
+advance-after : (k : ℕ) (g : Random) → after step k g ≡ later k g
+unfolding after later
 advance-after zero g = refl
 advance-after (suc k) g = ap step (advance-after k g)
 
-own-after : (k : ℕ) (g : Gen) → ownWord (after step k g) ≡ ownWords g k
+own-after : (k : ℕ) (g : Random) → ownWord (after step k g) ≡ ownWords g k
 unfolding ownWords
 own-after k g = ap ownWord (advance-after k g)
 
 -- n bytes that are whole words
-pub filled-whole : {g : Gen} {n : ℕ} {cur : Gen} {bytes : List ℕ} → WholeOwn g n cur bytes → n % widthOf (g .backend) ≡ 0 → FilledFrom g n bytes cur
+pub filled-whole : {g : Random} {n : ℕ} {cur : Random} {bytes : List ℕ} → WholeOwn g n cur bytes → n % widthOf (g .backend) ≡ 0 → FilledFrom g n bytes cur
 unfolding filledBytes
 filled-whole {g} {n} {cur} {bytes} h z =
     let W = widthOf (g .backend) in
@@ -87,7 +82,7 @@ filled-whole {g} {n} {cur} {bytes} h z =
     }
 
 -- and with a short tail, whose bytes are the low ones of the next word
-pub filled-tail : {g : Gen} {n : ℕ} {cur : Gen} {bytes : List ℕ} (h : WholeOwn g n cur bytes) (w : ℕ) (next : Gen)
+pub filled-tail : {g : Random} {n : ℕ} {cur : Random} {bytes : List ℕ} (h : WholeOwn g n cur bytes) (w : ℕ) (next : Random)
     → (n % widthOf (g .backend) ≡ 0 → ⊥) → w ≡ ownWord cur → next ≡ step cur
     → FilledFrom g n (poke (n % widthOf (g .backend)) (n - n % widthOf (g .backend)) w bytes) next
 unfolding filledBytes after
@@ -109,24 +104,15 @@ filled-tail {g} {n} {cur} {bytes} h w next z e f =
 
 -- ---- one content, one next generator
 
-pub one-filling : {g : Gen} {n : ℕ} {bytes other : List ℕ} {next next′ : Gen} → FilledFrom g n bytes next → FilledFrom g n other next′
+pub one-filling : {g : Random} {n : ℕ} {bytes other : List ℕ} {next next′ : Random} → FilledFrom g n bytes next → FilledFrom g n other next′
     → (bytes ≡ other) × (next ≡ next′)
 one-filling a b = (a .content ∙ sym (b .content), a .after ∙ sym (b .after))
 
 -- two buffers of one length come out alike, whatever they held
-pub old-content-is-lost : {g : Gen} (old old′ : List ℕ) {bytes other : List ℕ} {next next′ : Gen} → length old ≡ length old′
+pub old-content-is-lost : {g : Random} (old old′ : List ℕ) {bytes other : List ℕ} {next next′ : Random} → length old ≡ length old′
     → FilledFrom g (length old) bytes next → FilledFrom g (length old′) other next′ → bytes ≡ other
 old-content-is-lost {g} old old′ e a b = a .content ∙ ap (filledBytes g) e ∙ sym (b .content)
 
--- ---- by value
-
--- what `fill_bytes` builds
-pub fill-is : (g : Random) (n : ℕ) (bytes : List ℕ) (e : Engine) (t : List ℕ) → FilledFrom (genOf g) n bytes (lent e t)
-    → (bytes ≡ filledBytes (genOf g) n) × (joinedWith e t ≡ fillNext g n)
-unfolding fillNext
-fill-is g n bytes e t h = (h .content, joined-later (fillWords (genOf g) n) g e t (h .after))
-
 -- a buffer of length 0 leaves the generator alone
-pub fill-none : (g : Random) → fillNext g 0 ≡ g
-unfolding fillNext
-fill-none g = ap (λ (k : ℕ). later k g) (words-none _ (width-positive (g .backend))) ∙ later-none g
+pub fill-none : {g next : Random} {bytes : List ℕ} → FilledFrom g 0 bytes next → next ≡ g
+fill-none {g} h = h .after ∙ ap (λ (k : ℕ). later k g) (words-none _ (width-positive (g .backend))) ∙ later-none g

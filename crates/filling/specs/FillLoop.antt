@@ -1,5 +1,4 @@
 -- The loop that fills, over any engine: a state, the word that it gives and the state after it. Proved once, for every kind and every width.
--- Assumes nothing.
 use mathlib.Core.Path.{_≡_, refl, _∙_, ap}
 use mathlib.Core.List.{List}
 use Prim.Native.Nat.{ℕ, zero, suc, _+_, _-_, _*_, _/_, _%_, _≤_, _<_}

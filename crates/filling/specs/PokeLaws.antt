@@ -1,5 +1,4 @@
 -- The laws of writing bytes into a list: what stands before them stays, then stand the bytes, and no length changes.
--- Assumes nothing.
 use mathlib.Core.Path.{_≡_, refl, sym, _∙_, ap}
 use mathlib.Core.List.{List}
 use Prim.Native.Nat.{ℕ, zero, suc, _+_, _-_, _/_, _%_, _^_, _≤_, _<_}

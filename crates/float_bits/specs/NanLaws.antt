@@ -1,4 +1,4 @@
--- Which floats and patterns are a NaN's, by the tests that code can make: a NaN alone differs from itself. Assumes nothing.
+-- Which floats and patterns are a NaN's, by the tests that code can make: a NaN alone differs from itself.
 use mathlib.Core.Path.{_≡_, refl, ap}
 use Prim.Native.Nat.{ℕ}
 use mathlib.Core.Bool.{Bool, true, false, not, _&&_, _||_, Bool·beq}

@@ -1,17 +1,16 @@
 -- Each promise leaves one answer: two that both meet it are equal.
--- Assumes nothing.
 use mathlib.Core.List.{List}
 use mathlib.Core.Path.{_≡_, sym, _∙_, ap}
 use Prim.Native.Nat.{ℕ}
 use lib.Ieee.{Float}
 use Rattle.floats.specs.declared.intervals.Interval.{Interval}
-use Rattle.random.specs.LentLaws.{engineFrom, tableFrom}
+use Rattle.random.specs.Lent.{engineIn, tableIn}
 use Rattle.random.specs.declared.backend.Random.{Random}
 use Rattle.random.specs.declared.engine.Engine.{Engine}
-use Rattle.float_draws.specs.Coins.{Tossed, flipped}
+use Rattle.float_draws.specs.Coins.{joinedFlip}
 use Rattle.float_draws.specs.Promises.{BoolInPromise, BoolPromise, DoubleInPromise, DoublePromise, FloatInPromise, FloatPromise, UniformInPromise, UniformPromise}
-use Rattle.float_draws.specs.Spreads.{Spreading, spread}
-use Rattle.float_draws.specs.Units.{Floated, float32, float64}
+use Rattle.float_draws.specs.Spreads.{joinedSpread}
+use Rattle.float_draws.specs.Units.{joinedDouble, joinedFloat}
 use Rattle.float_draws.specs.declared.coins.EngineFlip.{EngineFlip}
 use Rattle.float_draws.specs.declared.coins.Flip.{Flip}
 use Rattle.float_draws.specs.declared.intervals.EngineSpread.{EngineSpread}
@@ -23,17 +22,17 @@ use Rattle.float_draws.specs.declared.units.EngineDrawn64.{EngineDrawn64
 
 -- ---- what a call over a lent table tells is its answer and that table
 
-flip-apart : {a b : EngineFlip} {m n : List ℕ} → flipped a m ≡ flipped b n → (a ≡ b) × (m ≡ n)
-flip-apart h = (ap (λ (x : Tossed). record { refusal = x .refusal; value = x .value; used = x .used; next = engineFrom (x .next) }) h, ap (λ (x : Tossed). tableFrom (x .next)) h)
+flip-apart : {a b : EngineFlip} {m n : List ℕ} → joinedFlip a m ≡ joinedFlip b n → (a ≡ b) × (m ≡ n)
+flip-apart h = (ap (λ (x : Flip). record { refusal = x .refusal; value = x .value; used = x .used; next = engineIn (x .next) }) h, ap (λ (x : Flip). tableIn (x .next)) h)
 
-spread-apart : {a b : EngineSpread} {m n : List ℕ} → spread a m ≡ spread b n → (a ≡ b) × (m ≡ n)
-spread-apart h = (ap (λ (x : Spreading). record { answer = x .answer; next = engineFrom (x .next) }) h, ap (λ (x : Spreading). tableFrom (x .next)) h)
+spread-apart : {a b : EngineSpread} {m n : List ℕ} → joinedSpread a m ≡ joinedSpread b n → (a ≡ b) × (m ≡ n)
+spread-apart h = (ap (λ (x : Spread). record { answer = x .answer; next = engineIn (x .next) }) h, ap (λ (x : Spread). tableIn (x .next)) h)
 
-float32-apart : {a b : EngineDrawn32} {m n : List ℕ} → float32 a m ≡ float32 b n → (a ≡ b) × (m ≡ n)
-float32-apart h = (ap (λ (x : Floated). record { value = x .value; next = engineFrom (x .next) }) h, ap (λ (x : Floated). tableFrom (x .next)) h)
+float32-apart : {a b : EngineDrawn32} {m n : List ℕ} → joinedFloat a m ≡ joinedFloat b n → (a ≡ b) × (m ≡ n)
+float32-apart h = (ap (λ (x : Drawn32). record { value = x .value; next = engineIn (x .next) }) h, ap (λ (x : Drawn32). tableIn (x .next)) h)
 
-float64-apart : {a b : EngineDrawn64} {m n : List ℕ} → float64 a m ≡ float64 b n → (a ≡ b) × (m ≡ n)
-float64-apart h = (ap (λ (x : Floated). record { value = x .value; next = engineFrom (x .next) }) h, ap (λ (x : Floated). tableFrom (x .next)) h)
+float64-apart : {a b : EngineDrawn64} {m n : List ℕ} → joinedDouble a m ≡ joinedDouble b n → (a ≡ b) × (m ≡ n)
+float64-apart h = (ap (λ (x : Drawn64). record { value = x .value; next = engineIn (x .next) }) h, ap (λ (x : Drawn64). tableIn (x .next)) h)
 
 -- ---- one answer
 

@@ -1,5 +1,4 @@
 -- The bench examples on floats (document 01), computed of the definitions.
--- Assumes nothing.
 use mathlib.Core.Path.{_≡_, refl}
 use Prim.Native.Nat.{ℕ}
 use mathlib.Core.Bool.{Bool, true, false}

@@ -1,6 +1,5 @@
 -- What follows of `bool`'s definitions: a chance is a p with 0 ≤ p ≤ 1, and the refusal is 3 exactly where p is NaN, below 0 or above
 -- 1 (document 01, "When the unit says no"). The order is IEEE 754's, over the whole numbers.
--- Assumes nothing.
 use mathlib.Core.Path.{_≡_, refl, sym, ap, _∙_}
 use mathlib.Core.Logic.{_↔_, _⊎_, inl, inr}
 use Prim.Native.Nat.{ℕ}

@@ -1,6 +1,5 @@
 -- The float that is n / 2 ^ k, in any format: there is one such float (`one-such`), `dyadic n k` is it (`dyadic-exact`), and a whole number
 -- cast to a float and multiplied by a power of two gives it, both exactly (`exact-draw`).
--- Assumes nothing.
 use mathlib.Core.Path.{_≡_, refl, sym, ap, _∙_}
 use Prim.Native.Nat.{ℕ, zero, suc, _+_, _-_, _*_, _/_, _%_, _^_, _≤_, _<_}
 use native.Mathlib.Nat.{le-of-lt, lt-of-lt-of-le, lt-of-le-of-lt, zero-lt-suc, mul-one, one-mul, mul-comm, mul-assoc}

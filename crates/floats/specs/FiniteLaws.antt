@@ -1,6 +1,5 @@
 -- Finite floats, by the whole numbers: what the tests with the infinities say, what is not finite, and that a difference of finite floats
 -- is no NaN, so that one which is not finite has overflowed.
--- Assumes nothing.
 use mathlib.Core.Path.{_≡_, refl, sym, ap, _∙_}
 use mathlib.Core.Logic.{_⊎_, inl, inr}
 use Prim.Native.Nat.{ℕ, zero, suc, _+_, _-_, _*_, _^_}

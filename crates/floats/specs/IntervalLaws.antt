@@ -1,6 +1,5 @@
 -- What follows of `uniform`'s definitions: each refusal both ways (document 01, "When the unit says no"), the order of the refusals, and
 -- that no word has a part in them.
--- Assumes nothing.
 use mathlib.Core.Path.{_≡_, refl, sym, ap, _∙_}
 use mathlib.Core.Logic.{_↔_, _⊎_, inl, inr}
 use Prim.Native.Nat.{ℕ, zero, suc}

@@ -1,6 +1,5 @@
 -- IEEE 754's comparisons, by the whole numbers: among finite floats `le y x` is the opposite of `lt x y`, and what the tests with 0
 -- and with 1 say.
--- Assumes nothing.
 use mathlib.Core.Path.{_≡_, refl, sym}
 use mathlib.Core.Logic.{_⊎_, inl, inr, ⊎-elim}
 use Prim.Native.Nat.{ℕ, zero, suc, _+_, _*_, _≤_, _<_, zero-le}

@@ -1,6 +1,5 @@
 -- `float` and `double` (document 01, "Draws"): each is the very number that the document says, with nothing rounded and no -0.0, and a
 -- double is from 0 to 1 - 2 ^ -53.
--- Assumes nothing.
 use Prim.Native.Nat.{ℕ, _-_, _/_, _^_, _≤_, _<_, zero-le}
 use native.Mathlib.Nat.{lt-of-le-of-lt, mul-le-mul-right}
 use native.Mathlib.Omega.{arith}

@@ -1,5 +1,4 @@
 -- When a list and a window are refused, and with which number: the checks as relations in the documents' words, each with one number.
--- Assumes nothing.
 use mathlib.Core.Path.{_≡_, refl, sym, _∙_}
 use mathlib.Core.Logic.{_↔_, _⊎_, inl, inr}
 use native.Mathlib.Decide.{decLe}

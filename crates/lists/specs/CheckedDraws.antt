@@ -1,6 +1,5 @@
 -- A draw below r after a check of the arguments, as `choose` and `rand_slice` are: that it is a budgeted call; which outcomes it may have, said
 -- as a relation; and when each comes.
--- Assumes nothing.
 use mathlib.Core.Path.{_≡_, refl, sym, _∙_, ap}
 use mathlib.Core.Bool.{Bool, true, false}
 use mathlib.Core.Logic.{_↔_}

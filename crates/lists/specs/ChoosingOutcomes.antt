@@ -1,6 +1,5 @@
 -- `choose`: when it is refused, and with which number; the place and the entry of an answer; the same answer at every larger budget (document 01,
 -- "Draws", "When the unit says no"; the order, demand 3).
--- Assumes nothing.
 use mathlib.Core.Path.{_≡_, ap}
 use mathlib.Core.List.{List}
 use mathlib.Core.Logic.{_↔_, Iff·trans}
@@ -13,14 +12,13 @@ use Rattle.words.specs.Draw.{Words, Outcome}
 use Rattle.words.specs.GoodWord.{NoneGood}
 use Rattle.words.specs.BelowItsBound.{WordSized}
 use Rattle.random.specs.declared.backend.Random.{Random}
-use Rattle.random.specs.Generator.{Gen, wordsOf}
-use Rattle.bounded.specs.Answers.{wordsFrom}
+use Rattle.random.specs.Generator.{wordsOf}
 use Rattle.bounded.specs.Limit.{listLimit}
 use Rattle.bounded.specs.Budgeted.{Budgeted, bounded-budgeted}
 use Rattle.lists.specs.Checks.{listRefusal}
 use Rattle.lists.specs.CheckLaws.{list-empty-exactly-if, list-too-long-exactly-if, list-allowed-exactly-if, list-not-short}
 use Rattle.lists.specs.CheckedDraws.{unless-budgeted, checked-exactly-if, short-exactly-if, answered-below, answered-uses-a-word}
-use Rattle.lists.specs.Choosing.{placeBy, entryOf, noChoice, chooseBy, chosenBy, chosenIn}
+use Rattle.lists.specs.Choosing.{placeBy, entryOf, noChoice, chooseBy, chosenBy}
 
 -- the place is a budgeted call's value
 pub place-budgeted : (n : ℕ) → Budgeted (λ s b. placeBy s n b)
@@ -88,10 +86,6 @@ module _ (s : Words) (list : List ℕ) where
 
 -- and so the whole answer stays: value, words used and next generator, by value and over a lent table.
 module _ (list : List ℕ) (b b′ : ℕ) (h : b ≤ b′) where
-  pub choice-larger : (g : Random) → chooseBy (wordsFrom g) list b .refusal ≡ answered
-      → chosenBy g (chooseBy (wordsFrom g) list b′) ≡ chosenBy g (chooseBy (wordsFrom g) list b)
-  choice-larger g a = ap (chosenBy g) (choose-larger (wordsFrom g) list b b′ h a)
-
-  pub choice-larger-in : (g : Gen) → chooseBy (wordsOf g) list b .refusal ≡ answered
-      → chosenIn g (chooseBy (wordsOf g) list b′) ≡ chosenIn g (chooseBy (wordsOf g) list b)
-  choice-larger-in g a = ap (chosenIn g) (choose-larger (wordsOf g) list b b′ h a)
+  pub choice-larger : (g : Random) → chooseBy (wordsOf g) list b .refusal ≡ answered
+      → chosenBy g (chooseBy (wordsOf g) list b′) ≡ chosenBy g (chooseBy (wordsOf g) list b)
+  choice-larger g a = ap (chosenBy g) (choose-larger (wordsOf g) list b b′ h a)

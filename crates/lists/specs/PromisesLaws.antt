@@ -1,17 +1,12 @@
 -- Each promise leaves one answer: two that both meet it are equal.
--- Assumes nothing.
 use mathlib.Core.List.{List}
 use mathlib.Core.Path.{_≡_, sym, _∙_}
 use Prim.Native.Nat.{ℕ}
-use lib.ListN.{length}
-use Rattle.random.specs.Generator.{wordsOf}
-use Rattle.random.specs.Lent.{lent}
+use Rattle.random.specs.Lent.{joinedWith}
 use Rattle.random.specs.declared.backend.Random.{Random}
 use Rattle.random.specs.declared.engine.Engine.{Engine}
-use Rattle.lists.specs.Choosing.{chooseBy}
-use Rattle.lists.specs.OneListAnswer.{one-choice-in, one-start-in}
+use Rattle.lists.specs.OneListAnswer.{choice-apart, start-apart}
 use Rattle.lists.specs.Promises.{ChooseInPromise, ChoosePromise, FirstOfPromise, ListRefusalPromise, RandSliceInPromise, RandSlicePromise, WindowOfPromise, WindowRefusalPromise}
-use Rattle.lists.specs.Slicing.{sliceBy}
 use Rattle.lists.specs.declared.places.Chosen.{Chosen}
 use Rattle.lists.specs.declared.places.EngineChosen.{EngineChosen}
 use Rattle.lists.specs.declared.windows.EngineSliceStart.{EngineSliceStart}
@@ -26,17 +21,17 @@ one-window-refusal n window p q = p ∙ sym q
 pub one-first-of : (first second : ℕ) {a b : ℕ} → FirstOfPromise first second a → FirstOfPromise first second b → a ≡ b
 one-first-of first second p q = p ∙ sym q
 
-pub one-choose-in : (e : Engine) (mt list : List ℕ) (budget : ℕ) {a b : EngineChosen} {mt₁ mt₂ : List ℕ} → ChooseInPromise e mt list budget a mt₁ → ChooseInPromise e mt list budget b mt₂ → (a ≡ b) × (mt₁ ≡ mt₂)
-one-choose-in e mt list budget p q = one-choice-in (lent e mt) (chooseBy (wordsOf (lent e mt)) list budget) p q
-
 pub one-choose : (g : Random) (list : List ℕ) (budget : ℕ) {a b : Chosen} → ChoosePromise g list budget a → ChoosePromise g list budget b → a ≡ b
 one-choose g list budget p q = p ∙ sym q
 
-pub one-rand-slice-in : (e : Engine) (mt list : List ℕ) (window budget : ℕ) {a b : EngineSliceStart} {mt₁ mt₂ : List ℕ} → RandSliceInPromise e mt list window budget a mt₁ → RandSliceInPromise e mt list window budget b mt₂ → (a ≡ b) × (mt₁ ≡ mt₂)
-one-rand-slice-in e mt list window budget p q = one-start-in (lent e mt) (sliceBy (wordsOf (lent e mt)) (length list) window budget) p q
+pub one-choose-in : (e : Engine) (mt list : List ℕ) (budget : ℕ) {a b : EngineChosen} {mt₁ mt₂ : List ℕ} → ChooseInPromise e mt list budget a mt₁ → ChooseInPromise e mt list budget b mt₂ → (a ≡ b) × (mt₁ ≡ mt₂)
+one-choose-in e mt list budget p q = choice-apart (one-choose (joinedWith e mt) list budget p q)
 
 pub one-rand-slice : (g : Random) (list : List ℕ) (window budget : ℕ) {a b : SliceStart} → RandSlicePromise g list window budget a → RandSlicePromise g list window budget b → a ≡ b
 one-rand-slice g list window budget p q = p ∙ sym q
+
+pub one-rand-slice-in : (e : Engine) (mt list : List ℕ) (window budget : ℕ) {a b : EngineSliceStart} {mt₁ mt₂ : List ℕ} → RandSliceInPromise e mt list window budget a mt₁ → RandSliceInPromise e mt list window budget b mt₂ → (a ≡ b) × (mt₁ ≡ mt₂)
+one-rand-slice-in e mt list window budget p q = start-apart (one-rand-slice (joinedWith e mt) list window budget p q)
 
 pub one-window-of : (list : List ℕ) (start window : ℕ) {a b : List ℕ} → WindowOfPromise list start window a → WindowOfPromise list start window b → a ≡ b
 one-window-of list start window p q = p ∙ sym q

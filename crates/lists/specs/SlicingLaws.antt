@@ -1,5 +1,4 @@
 -- What the code of `rand_slice` and `window_of` builds is the answer of their definitions.
--- Assumes nothing.
 use mathlib.Core.Path.{_≡_, ap}
 use mathlib.Core.List.{List, []}
 use Prim.Native.Nat.{ℕ, _+_, _-_, _≤_, _<_}
@@ -8,20 +7,15 @@ use borrow.Author.Tests.{le-leb, lt-leb}
 use lib.ListN.{length, take, drop}
 use Rattle.words.specs.Draw.{Outcome}
 use Rattle.random.specs.declared.backend.Random.{Random}
-use Rattle.random.specs.Generator.{genOf}
-use Rattle.random.specs.Words.{joinedWith}
 use Rattle.bounded.specs.declared.answers.Answer.{Answer}
-use Rattle.bounded.specs.Answers.{answered, handed, answeredIn}
-use Rattle.bounded.specs.AnswerLaws.{joined-answers}
-use Rattle.lists.specs.declared.windows.EngineSliceStart.{EngineSliceStart}
-use Rattle.lists.specs.Slicing.{startedBy, startAnswer, partOf}
+use Rattle.bounded.specs.Answers.{answered}
+use Rattle.lists.specs.Slicing.{startedBy, partOf}
 
--- the engine's answer and the table, joined, are the whole generator's answer
-pub joined-start : (g : Random) (o : Outcome) (a : EngineSliceStart) (t : List ℕ) → handed (startAnswer a) t ≡ answeredIn (genOf g) o
-    → record { refusal = a .refusal; start = a .start; used = a .used; next = joinedWith (a .next) t } ≡ startedBy g o
+-- the answer of a draw, its value read as the start
+pub start-answers : (g : Random) (o : Outcome) {x : Answer} → x ≡ answered g o
+    → record { refusal = x .refusal; start = x .value; used = x .used; next = x .next } ≡ startedBy g o
 unfolding answered startedBy
-joined-start g o a t h =
-    ap (λ (x : Answer). record { refusal = x .refusal; start = x .value; used = x .used; next = x .next }) (joined-answers g o (startAnswer a) t h)
+start-answers g o h = ap (λ (x : Answer). record { refusal = x .refusal; start = x .value; used = x .used; next = x .next }) h
 
 module _ (list : List ℕ) (start window : ℕ) where
   pub part-past : length list < start + window → partOf list start window ≡ []

@@ -1,6 +1,5 @@
 -- `rand_slice`: when it is refused, and with which number; where an answer's start lies; the same answer at every larger budget. And the part of
 -- a list that `window_of` hands back (document 01, "Draws", "When the unit says no"; the order, demand 3).
--- Assumes nothing.
 use mathlib.Core.Path.{_≡_, sym, _∙_, ap}
 use mathlib.Core.List.{List, []}
 use mathlib.Core.Logic.{_↔_, Iff·trans, _⊎_, inl, inr, ⊎-elim}
@@ -16,7 +15,7 @@ use Rattle.words.specs.Draw.{Words}
 use Rattle.words.specs.GoodWord.{NoneGood}
 use Rattle.words.specs.BelowItsBound.{WordSized}
 use Rattle.random.specs.declared.backend.Random.{Random}
-use Rattle.bounded.specs.Answers.{wordsFrom}
+use Rattle.random.specs.Generator.{wordsOf}
 use Rattle.bounded.specs.Limit.{listLimit}
 use Rattle.bounded.specs.Budgeted.{Budgeted, bounded-budgeted}
 use Rattle.lists.specs.Checks.{sliceRefusal}
@@ -73,11 +72,10 @@ module _ (s : Words) (n window budget : ℕ) where
     unfolding sliceBy
     start-uses-a-word = answered-uses-a-word (sliceRefusal n window) s (n - window + 1) budget a-start a
 
--- "a larger budget never changes an answer given": value, words used and next generator (over a lent table by `answer-larger-in`, from
--- `slice-budgeted`)
-pub start-larger : (g : Random) (n window b b′ : ℕ) → b ≤ b′ → sliceBy (wordsFrom g) n window b .refusal ≡ answered
-    → startedBy g (sliceBy (wordsFrom g) n window b′) ≡ startedBy g (sliceBy (wordsFrom g) n window b)
-start-larger g n window b b′ h a = ap (startedBy g) (slice-budgeted n window .larger (wordsFrom g) b b′ h a)
+-- "a larger budget never changes an answer given": value, words used and next generator
+pub start-larger : (g : Random) (n window b b′ : ℕ) → b ≤ b′ → sliceBy (wordsOf g) n window b .refusal ≡ answered
+    → startedBy g (sliceBy (wordsOf g) n window b′) ≡ startedBy g (sliceBy (wordsOf g) n window b)
+start-larger g n window b b′ h a = ap (startedBy g) (slice-budgeted n window .larger (wordsOf g) b b′ h a)
 
 -- ---- the part
 

@@ -1,6 +1,5 @@
 -- When a making of bytes is refused: with 10 exactly where the kind is above 3, with 11 exactly where a kind's seed has not its length, and then
 -- kind 0 with four zero words is handed out.
--- Assumes nothing.
 use mathlib.Core.List.{List}
 use mathlib.Core.Path.{_≡_, sym, _∙_, ap}
 use Prim.Native.Nat.{ℕ, _≤_, _<_}

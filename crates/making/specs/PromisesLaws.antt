@@ -1,12 +1,11 @@
 -- Each promise leaves one answer: two that both meet it are equal.
--- Assumes nothing.
 use mathlib.Core.List.{List}
 use mathlib.Core.Path.{_≡_, sym, _∙_}
 use Prim.Native.Nat.{ℕ}
 use Rattle.mersenne_twister.specs.declared.MersenneTwister.{MersenneTwister}
 use Rattle.pcg.specs.declared.pcg32.Pcg32.{Pcg32}
 use Rattle.pcg.specs.declared.pcg64.Pcg64.{Pcg64}
-use Rattle.random.specs.LentLaws.{lent-apart}
+use Rattle.random.specs.LentLaws.{joined-apart}
 use Rattle.random.specs.declared.backend.Random.{Random}
 use Rattle.random.specs.declared.engine.Engine.{Engine}
 use Rattle.wrapping.specs.declared.wide.Wide.{Wide}
@@ -54,7 +53,7 @@ pub one-new-pcg64-with-stream : (seed stream : Wide) {a b : Random} → NewPcg64
 one-new-pcg64-with-stream seed stream p q = p ∙ sym q
 
 pub one-seed-in : (e : Engine) (mt : List ℕ) (seed : ℕ) {a b : Engine} {mt₁ mt₂ : List ℕ} → SeedInPromise e mt seed a mt₁ → SeedInPromise e mt seed b mt₂ → (a ≡ b) × (mt₁ ≡ mt₂)
-one-seed-in e mt seed p q = lent-apart (p ∙ sym q)
+one-seed-in e mt seed p q = joined-apart (p ∙ sym q)
 
 pub one-seed : (g : Random) (seed : ℕ) {a b : Random} → SeedPromise g seed a → SeedPromise g seed b → a ≡ b
 one-seed g seed p q = p ∙ sym q

@@ -1,5 +1,4 @@
 -- The words stay below 2 ^ 32. `Words t` bounds every entry, also past the end, where `getD` gives 0: so no law asks a length.
--- Assumes nothing.
 use mathlib.Core.List.{List}
 use mathlib.Core.Logic.{⊎-elim}
 use mathlib.Core.Path.{_≡_}

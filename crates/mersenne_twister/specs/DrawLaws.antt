@@ -1,5 +1,4 @@
 -- The laws of draws: one draw, what its equation says where the table is lent, draws in a row, and words of 64 bits.
--- Assumes nothing.
 use mathlib.Core.List.{List}
 use mathlib.Core.Path.{_≡_, refl, sym, ap, _∙_}
 use Prim.Native.Nat.{ℕ, zero, suc, _+_, _*_, _^_, _≤_, _<_}

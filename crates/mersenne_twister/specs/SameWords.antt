@@ -1,5 +1,4 @@
 -- The table gives the words of the paper's sequence: the k-th word from 624 words and any position is the tempering of the right term.
--- Assumes nothing.
 use mathlib.Core.List.{List}
 use mathlib.Core.Path.{_≡_, sym, ap, _∙_}
 use Prim.Native.Nat.{ℕ, zero, suc, _+_, _<_, min}

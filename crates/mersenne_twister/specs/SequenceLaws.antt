@@ -1,5 +1,4 @@
 -- The recurrence has exactly one solution for each 624 words to start from: `sequence` is one, and there is no other.
--- Assumes nothing.
 use mathlib.Core.List.{List, [], _∷_, _++_}
 use mathlib.Core.Path.{_≡_, refl, sym, ap, _∙_}
 use Prim.Native.Nat.{ℕ, zero, suc, _+_, _-_, _≤_, _<_}

@@ -1,6 +1,5 @@
 -- The table follows the sequence: the twist in place makes the next 624 terms of any sequence that starts with the table and meets the
 -- recurrence, and seeding in place makes the seed's table. With the laws of single stores, by which the loops of the code turn.
--- Assumes nothing.
 use mathlib.Core.List.{List}
 use mathlib.Core.Logic.{⊎-elim}
 use mathlib.Core.Path.{_≡_, refl, sym, ap, _∙_}

@@ -1,5 +1,4 @@
 -- The definitions give the words that mt19937ar.c gives, worked out here.
--- Assumes nothing.
 use Prim.Native.Nat.{ℕ, suc}
 use mathlib.Core.Path.{_≡_, refl}
 use native.Mathlib.Omega.{arith}

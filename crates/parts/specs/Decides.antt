@@ -1,5 +1,4 @@
 -- What it is for a test to decide a statement: it is true exactly where the statement holds.
--- Assumes nothing.
 use mathlib.Core.Bool.{Bool, true, false}
 use mathlib.Core.Path.{_≡_, refl, sym, _∙_}
 use Prim.Native.Nat.{ℕ}

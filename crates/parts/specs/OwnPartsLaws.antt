@@ -1,5 +1,4 @@
 -- The laws of own parts: the kind and the small words fix the backend, and what two generators must share to be equal.
--- Assumes nothing.
 use mathlib.Core.List.{List}
 use mathlib.Core.Path.{_≡_, refl, sym, _∙_, ap, ap₂}
 use Prim.Native.Nat.{ℕ}
@@ -7,7 +6,7 @@ use native.Mathlib.Omega.{arith}
 use Rattle.pcg.specs.declared.pcg32.Pcg32 as pcg32-type
 use Rattle.pcg.specs.declared.pcg64.Pcg64 as pcg64-type
 use Rattle.xoshiro.specs.declared.Xoshiro256PlusPlus as xoshiro-type
-use Rattle.random.specs.Generator.{Gen}
+use Rattle.random.specs.declared.backend.Random.{Random}
 use Rattle.random.specs.declared.backend.Backend.{Backend}
 use Rattle.random.specs.declared.backend.Backend.the-variants.{Xoshiro256PlusPlus, MersenneTwister, Pcg32, Pcg64}
 use Rattle.parts.specs.declared.read_out.Small.{Small}
@@ -49,8 +48,8 @@ twister-by MersenneTwister t h = refl
 twister-by (Pcg32 p) t h = absurd (omega arith)
 twister-by (Pcg64 p) t h = absurd (omega arith)
 
-module _ (g h : Gen) where
-  abbrev position : Gen → ℕ
+module _ (g h : Random) where
+  abbrev position : Random → ℕ
   position a = positionOf (a .backend) (a .twister .mti)
 
   -- what follows of equal own parts

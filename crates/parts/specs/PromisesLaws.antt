@@ -1,10 +1,9 @@
 -- Each promise leaves one answer: two that both meet it are equal.
--- Assumes nothing.
 use mathlib.Core.Bool.{Bool}
 use mathlib.Core.List.{List}
 use mathlib.Core.Path.{_≡_, sym, _∙_}
 use Prim.Native.Nat.{ℕ}
-use Rattle.random.specs.LentLaws.{lent-apart}
+use Rattle.random.specs.LentLaws.{joined-apart}
 use Rattle.random.specs.declared.backend.Backend.{Backend}
 use Rattle.random.specs.declared.backend.Random.{Random}
 use Rattle.random.specs.declared.engine.Engine.{Engine}
@@ -30,7 +29,7 @@ pub one-set-mti-in : (e : Engine) (value : ℕ) {a b : Engine} → SetMtiInPromi
 one-set-mti-in e value p q = p ∙ sym q
 
 pub one-twist-in : (e : Engine) (mt : List ℕ) {a b : Engine} {mt₁ mt₂ : List ℕ} → TwistInPromise e mt a mt₁ → TwistInPromise e mt b mt₂ → (a ≡ b) × (mt₁ ≡ mt₂)
-one-twist-in e mt p q = lent-apart (p ∙ sym q)
+one-twist-in e mt p q = joined-apart (p ∙ sym q)
 
 pub one-mti : (g : Random) {a b : ℕ} → MtiPromise g a → MtiPromise g b → a ≡ b
 one-mti g p q = p ∙ sym q

@@ -1,9 +1,7 @@
 -- Equality of generators is an equivalence: said of what `same` promises.
--- Assumes nothing.
 use mathlib.Core.Bool.{Bool, true}
 use mathlib.Core.Path.{_≡_, refl, sym, _∙_}
 use Rattle.random.specs.declared.backend.Random.{Random}
-use Rattle.random.specs.Generator.{genOf}
 use Rattle.parts.specs.Decides.{decides-once}
 use Rattle.parts.specs.OwnParts.{ownParts}
 use Rattle.parts.specs.Promises.{SamePromise}
@@ -13,7 +11,7 @@ same-self a p = p .1 refl
 
 pub same-either-way : (a b : Random) {r r′ : Bool} → SamePromise a b r → SamePromise b a r′ → r ≡ r′
 same-either-way a b {r} {r′} p q =
-    decides-once r r′ (ownParts (genOf a) ≡ ownParts (genOf b)) p (λ e. sym (q .0 e), λ e. q .1 (sym e))
+    decides-once r r′ (ownParts a ≡ ownParts b) p (λ e. sym (q .0 e), λ e. q .1 (sym e))
 
 pub same-through : (a b c : Random) {r r′ r″ : Bool} → SamePromise a b r → SamePromise b c r′ → SamePromise a c r″
     → r ≡ true → r′ ≡ true → r″ ≡ true

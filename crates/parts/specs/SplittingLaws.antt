@@ -1,5 +1,4 @@
 -- The laws of `split`: it is refused exactly on the kinds other than 0, and what the call by value builds of the lent one.
--- Assumes nothing.
 use mathlib.Core.Path.{_≡_, refl, sym, _∙_, ap}
 use Prim.Native.Nat.{ℕ}
 use native.Mathlib.Omega.{arith}
@@ -12,7 +11,7 @@ use Rattle.parts.specs.declared.splitting.SplitAnswer.{SplitAnswer}
 use Rattle.parts.specs.Kind.{kindOf}
 use Rattle.making.specs.Make.{zeroGenerator}
 use Rattle.parts.specs.Splitting.{refusedSplit, engineSplitBy, engineSplit, splitBy, splitOf}
-use Rattle.random.specs.Words.{engineIn, joinedWith}
+use Rattle.random.specs.Lent.{engineIn, joinedWith}
 
 -- ---- refused on every other kind
 

@@ -1,5 +1,4 @@
 -- Each promise leaves one answer: two that both meet it are equal.
--- Assumes nothing.
 use mathlib.Core.List.{List}
 use mathlib.Core.Path.{_≡_, sym, _∙_}
 use Prim.Native.Nat.{ℕ}

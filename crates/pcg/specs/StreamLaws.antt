@@ -1,6 +1,5 @@
 -- What follows of streams, at every width: the increment in use is odd and fits its width, and streams that differ in their top bit
 -- alone, or as byte seeds in their low bit alone, give one increment.
--- Assumes nothing.
 use mathlib.Core.Path.{_≡_, refl, sym, ap, _∙_}
 use Prim.Native.Nat.{ℕ, suc, _+_, _*_, _/_, _%_, _^_, _<_}
 use native.Mathlib.Omega.{arith}

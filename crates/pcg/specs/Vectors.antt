@@ -1,6 +1,5 @@
 -- Worked examples of the definitions: the increments in use of the default streams (document 01), and the first word of each of O'Neill's
 -- demonstration programs, seed 42 and stream 54; at 128 bits her first word is this generator's second.
--- Assumes nothing.
 use mathlib.Core.Path.{_≡_, refl}
 use Rattle.pcg.specs.Lcg.{increment, seededState}
 use Rattle.pcg.specs.Pcg32 as pcg32

@@ -1,4 +1,4 @@
--- A generator made ready draws the word that it drew before; and below position 624 every word is ready. Assumes nothing.
+-- A generator made ready draws the word that it drew before; and below position 624 every word is ready.
 use mathlib.Core.Path.{_≡_, refl, sym, _∙_, ap}
 use mathlib.Core.Bool.{Bool, true}
 use mathlib.Core.List.{List}
@@ -15,7 +15,9 @@ use Rattle.mersenne_twister.specs.Sequence.{temper}
 use Rattle.mersenne_twister.specs.Table.{held, drawn, twisted}
 use Rattle.random.specs.declared.backend.Backend.{Backend}
 use Rattle.random.specs.declared.backend.Backend.the-variants.{Xoshiro256PlusPlus, MersenneTwister, Pcg32, Pcg64}
-use Rattle.random.specs.Generator.{Gen, gen, step, wordOf, Drawn, drawn32}
+use Rattle.random.specs.declared.backend.Random.{Random}
+use Rattle.random.specs.Generator.{gen, step, wordOf, randOf}
+use Rattle.random.specs.declared.by_value.Word32.{Word32}
 use Rattle.random.specs.Ready.{readyBy, isReady, madeReady, drawnReady}
 
 -- ---- which words are ready
@@ -27,28 +29,28 @@ ready-below (Pcg32 p) t h = refl
 ready-below (Pcg64 p) t h = refl
 
 -- a ready word is the next word, and a ready generator stays as it is
-pub drawn-ready : (g : Gen) → isReady g ≡ true → drawnReady g ≡ drawn32 g
+pub drawn-ready : (g : Random) → isReady g ≡ true → drawnReady g ≡ randOf g
 unfolding drawnReady
 drawn-ready g h = rw h
 
-pub made-already : (g : Gen) → isReady g ≡ true → madeReady g ≡ g
+pub made-already : (g : Random) → isReady g ≡ true → madeReady g ≡ g
 unfolding madeReady
 made-already g h = rw h
 
-pub made-below : (g : Gen) → g .twister .mti < 624 → madeReady g ≡ g
+pub made-below : (g : Random) → g .twister .mti < 624 → madeReady g ≡ g
 made-below g h = made-already g (ready-below (g .backend) (g .twister) h)
 
-pub drawn-below : (g : Gen) → g .twister .mti < 624 → drawnReady g ≡ drawn32 g
+pub drawn-below : (g : Random) → g .twister .mti < 624 → drawnReady g ≡ randOf g
 drawn-below g h = drawn-ready g (ready-below (g .backend) (g .twister) h)
 
-ready-stays : (g : Gen) → isReady g ≡ true → drawnReady (madeReady g) ≡ drawn32 g
+ready-stays : (g : Random) → isReady g ≡ true → drawnReady (madeReady g) ≡ randOf g
 ready-stays g h = ap drawnReady (made-already g h) ∙ drawn-ready g h
 
 -- ---- the twister's words off its table: below its end, and at it
 
 pub twister-ready : (t : List ℕ) (p w : ℕ) → p < 624 → w ≡ temper (getD t p 0)
     → record { word = w; next = gen MersenneTwister (held t (p + 1)) } ≡ drawnReady (gen MersenneTwister (held t p))
-unfolding drawn32 wordOf step
+unfolding randOf wordOf step
 twister-ready t p w h e =
     rw e (ap (λ (d : Drawn32). record { word = d .word; next = gen MersenneTwister (d .next) }) (sym (in-low t p h))
     ∙ sym (drawn-ready (gen MersenneTwister (held t p)) (lt-ltb p 624 h)))
@@ -67,20 +69,20 @@ twister-made t m p q h e = rw (le-ltb p 624 h) (ap (gen MersenneTwister) e)
 renewed-draws : (t : twister-type.MersenneTwister) → 624 ≤ t .mti → drawn (twisted t) ≡ drawn t
 renewed-draws t h = in-low (twisted t .mt) 0 (omega arith) ∙ sym (in-high (t .mt) (t .mti) h)
 
-made-twister : (t : twister-type.MersenneTwister) → drawnReady (madeReady (gen MersenneTwister t)) ≡ drawn32 (gen MersenneTwister t)
-unfolding madeReady drawnReady drawn32 wordOf step
+made-twister : (t : twister-type.MersenneTwister) → drawnReady (madeReady (gen MersenneTwister t)) ≡ randOf (gen MersenneTwister t)
+unfolding madeReady drawnReady randOf wordOf step
 made-twister t =
     elim (decLe 624 (t .mti)) [
       | yes h ↦ rw (le-ltb (t .mti) 624 h) (ap (λ (d : Drawn32). record { word = d .word; next = gen MersenneTwister (d .next) }) (renewed-draws t h))
       | no h ↦ ready-stays (gen MersenneTwister t) (lt-ltb (t .mti) 624 (lt-of-not-le h))
     ]
 
-made-by : (b : Backend) (t : twister-type.MersenneTwister) → drawnReady (madeReady (gen b t)) ≡ drawn32 (gen b t)
+made-by : (b : Backend) (t : twister-type.MersenneTwister) → drawnReady (madeReady (gen b t)) ≡ randOf (gen b t)
 unfolding madeReady drawnReady
 made-by (Xoshiro256PlusPlus x) t = refl
 made-by MersenneTwister t = made-twister t
 made-by (Pcg32 p) t = refl
 made-by (Pcg64 p) t = refl
 
-pub made-ready : (g : Gen) → drawnReady (madeReady g) ≡ drawn32 g
+pub made-ready : (g : Random) → drawnReady (madeReady g) ≡ randOf g
 made-ready g = made-by (g .backend) (g .twister)

@@ -1,5 +1,4 @@
 -- The laws of bounds one after the other.
--- Assumes nothing.
 use mathlib.Core.Path.{_≡_, refl, _∙_, ap}
 use mathlib.Core.Bool.{Bool, true, false}
 use mathlib.Core.List.{List, [], _∷_, _++_}

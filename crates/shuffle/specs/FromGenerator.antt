@@ -1,29 +1,29 @@
 -- The words of a generator, block after block: where the loops of the rehearsal and of the shuffle stand.
--- Assumes nothing.
 use mathlib.Core.Path.{_≡_, sym, _∙_}
 use mathlib.Core.List.{List}
 use Prim.Native.Nat.{ℕ, _+_, _≤_, _<_}
 use native.Mathlib.Omega.{arith}
 use lib.ListN.{length, getD}
-use Rattle.random.specs.Generator.{Gen, advance, wordsOf}
-use Rattle.random.specs.GeneratorLaws.{advance-none, advance-add, words-after}
+use Rattle.random.specs.declared.backend.Random.{Random}
+use Rattle.random.specs.Generator.{later, wordsOf}
+use Rattle.random.specs.GeneratorLaws.{later-none, later-add, words-after}
 use Rattle.ahead.specs.Ahead.{atMost, placed, WordsPut}
 use Rattle.ahead.specs.AheadLaws.{placed-length, placed-word, at-most-few}
 use Rattle.shuffle.specs.Rehearsing.{InBlock}
 
 -- The generator g has come `taken` words far, to cur; the block has its sixteen entries.
-pub record Blocks (g : Gen) (taken : ℕ) (cur : Gen) (block : List ℕ) : Type 0 where
-  pub moved : cur ≡ advance taken g
+pub record Blocks (g : Random) (taken : ℕ) (cur : Random) (block : List ℕ) : Type 0 where
+  pub moved : cur ≡ later taken g
   pub sized : length block ≡ 16
 
-pub blocks-start : {g : Gen} {block : List ℕ} → length block ≡ 16 → Blocks g 0 g block
-blocks-start {g} h = record { moved = sym (advance-none g); sized = h }
+pub blocks-start : {g : Random} {block : List ℕ} → length block ≡ 16 → Blocks g 0 g block
+blocks-start {g} h = record { moved = sym (later-none g); sized = h }
 
-module _ {g cur cur′ : Gen} {taken n : ℕ} {block block′ : List ℕ} (h : Blocks g taken cur block) (few : n ≤ 16)
+module _ {g cur cur′ : Random} {taken n : ℕ} {block block′ : List ℕ} (h : Blocks g taken cur block) (few : n ≤ 16)
     (p : WordsPut cur (atMost n) block block′ cur′) where
   pub blocks-on : Blocks g (taken + n) cur′ block′
   blocks-on = record {
-    moved = rw (at-most-few n few, h .moved, ← advance-add taken n g) at (p .moved);
+    moved = rw (at-most-few n few, h .moved, ← later-add taken n g) at (p .moved);
     sized = rw (p .words, placed-length (wordsOf cur) (atMost n) block) (h .sized);
   }
 

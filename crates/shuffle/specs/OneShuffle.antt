@@ -1,5 +1,4 @@
 -- What the shuffle's promise fixes: one answer and one list, the generator after the words used, and when it is refused, and with which number.
--- Assumes nothing.
 use mathlib.Core.Path.{_≡_, refl, sym, _∙_, ap}
 use mathlib.Core.List.{List}
 use mathlib.Core.Logic.{_↔_}
@@ -11,14 +10,12 @@ use lib.ListN.{length}
 use Rattle.words.specs.Refusal.{answered, tooLong, outOfBudget}
 use Rattle.words.specs.Draw.{Words, Drawn, all, short, Outcome, refused, gives, outcomeOf}
 use Rattle.random.specs.declared.backend.Random.{Random}
-use Rattle.random.specs.Generator.{Gen, advance, wordsOf}
-use Rattle.random.specs.Lent.{lent}
-use Rattle.random.specs.Words.{later}
+use Rattle.random.specs.Generator.{later, wordsOf}
 use Rattle.bounded.specs.declared.answers.Answer.{Answer}
 use Rattle.bounded.specs.declared.answers.EngineAnswer.{EngineAnswer}
 use Rattle.bounded.specs.Answers as answer
-use Rattle.bounded.specs.Answers.{wordsFrom, handed, answeredIn}
-use Rattle.bounded.specs.OneAnswer.{next-after-used, next-after-used-in, one-answer, one-answer-in}
+use Rattle.bounded.specs.Answers.{joinedAnswer}
+use Rattle.bounded.specs.OneAnswer.{next-after-used, one-answer, answer-apart}
 use Rattle.bounded.specs.Limit.{listLimit}
 use Rattle.shuffle.specs.Swap.{arranged}
 use Rattle.shuffle.specs.Shuffle.{placesDrawn, shuffleBy, listAfter, shuffled}
@@ -26,23 +23,20 @@ use Rattle.shuffle.specs.ShuffleLaws.{shuffle-long, shuffle-drawn, list-
 
 -- ---- one answer and one list; "The new generator is the old one after that many words" (document 01, "Draws")
 
-module _ {a : Answer} {l′ : List ℕ} (g : Random) (l : List ℕ) (budget : ℕ) (p : a ≡ answer.answered g (shuffleBy (wordsFrom g) (length l) budget))
-    (q : l′ ≡ shuffled (wordsFrom g) l budget) where
-  pub one-shuffle : {b : Answer} {l″ : List ℕ} → b ≡ answer.answered g (shuffleBy (wordsFrom g) (length l) budget) → l″ ≡ shuffled (wordsFrom g) l budget
+module _ {a : Answer} {l′ : List ℕ} (g : Random) (l : List ℕ) (budget : ℕ) (p : a ≡ answer.answered g (shuffleBy (wordsOf g) (length l) budget))
+    (q : l′ ≡ shuffled (wordsOf g) l budget) where
+  pub one-shuffle : {b : Answer} {l″ : List ℕ} → b ≡ answer.answered g (shuffleBy (wordsOf g) (length l) budget) → l″ ≡ shuffled (wordsOf g) l budget
       → (a ≡ b) × (l′ ≡ l″)
-  one-shuffle p′ q′ = (one-answer g (shuffleBy (wordsFrom g) (length l) budget) p p′, q ∙ sym q′)
+  one-shuffle p′ q′ = (one-answer g (shuffleBy (wordsOf g) (length l) budget) p p′, q ∙ sym q′)
 
   pub shuffle-next : a .next ≡ later (a .used) g
-  shuffle-next = next-after-used g (shuffleBy (wordsFrom g) (length l) budget) p
+  shuffle-next = next-after-used g (shuffleBy (wordsOf g) (length l) budget) p
 
-module _ {a : EngineAnswer} {m l′ : List ℕ} (g : Gen) (l : List ℕ) (budget : ℕ) (p : handed a m ≡ answeredIn g (shuffleBy (wordsOf g) (length l) budget))
+module _ {a : EngineAnswer} {m l′ : List ℕ} (g : Random) (l : List ℕ) (budget : ℕ) (p : joinedAnswer a m ≡ answer.answered g (shuffleBy (wordsOf g) (length l) budget))
     (q : l′ ≡ shuffled (wordsOf g) l budget) where
-  pub one-shuffle-in : {b : EngineAnswer} {m′ l″ : List ℕ} → handed b m′ ≡ answeredIn g (shuffleBy (wordsOf g) (length l) budget) → l″ ≡ shuffled (wordsOf g) l budget
+  pub one-shuffle-in : {b : EngineAnswer} {m′ l″ : List ℕ} → joinedAnswer b m′ ≡ answer.answered g (shuffleBy (wordsOf g) (length l) budget) → l″ ≡ shuffled (wordsOf g) l budget
       → ((a ≡ b) × (m ≡ m′)) × (l′ ≡ l″)
-  one-shuffle-in p′ q′ = (one-answer-in g (shuffleBy (wordsOf g) (length l) budget) p p′, q ∙ sym q′)
-
-  pub shuffle-next-in : lent (a .next) m ≡ advance (a .used) g
-  shuffle-next-in = next-after-used-in g (shuffleBy (wordsOf g) (length l) budget) p
+  one-shuffle-in p′ q′ = (answer-apart (p ∙ sym p′), q ∙ sym q′)
 
 -- ---- its outcomes, said as a relation in the documents' words
 

@@ -1,5 +1,4 @@
 -- The shuffle's draws with their swaps: what holds after some words, with one law for each way through the loop.
--- Assumes nothing.
 use mathlib.Core.Path.{_≡_, refl, sym, _∙_, ap}
 use mathlib.Core.Bool.{true, false}
 use mathlib.Core.List.{List, [], _∷_, _++_}
@@ -7,11 +6,12 @@ use Prim.Native.Nat.{ℕ, _+_, _-_, _≤_, _<_}
 use native.Mathlib.Omega.{arith}
 use lib.ListN.{length, getD}
 use Rattle.words.specs.Draw.{Words, good, quotient, all, draws, gives}
-use Rattle.random.specs.Generator.{Gen, wordsOf}
-use Rattle.random.specs.Lent.{lent}
+use Rattle.random.specs.declared.backend.Random.{Random}
+use Rattle.random.specs.Generator.{wordsOf}
+use Rattle.random.specs.Lent.{joinedWith}
 use Rattle.random.specs.declared.engine.Engine.{Engine}
 use Rattle.bounded.specs.declared.answers.EngineAnswer.{EngineAnswer}
-use Rattle.bounded.specs.Answers.{handed, answeredIn, accepting}
+use Rattle.bounded.specs.Answers.{joinedAnswer, answered, accepting}
 use Rattle.bounded.specs.AnswerLaws.{accepting-answers}
 use Rattle.shuffle.specs.Bounds.{boundsFrom}
 use Rattle.shuffle.specs.Swap.{swapped, arranged}
@@ -98,13 +98,13 @@ module _ {last budget taken n : ℕ} {block : List ℕ} {at₀ : ℕ} {l₀ : Li
 
 -- ---- what it comes to: where all draws are settled, the list after their places, and the answer with the words used
 
-pub record Performed (g : Gen) (last budget : ℕ) (l₀ l : List ℕ) (a : EngineAnswer) (m : List ℕ) : Type 0 where
+pub record Performed (g : Random) (last budget : ℕ) (l₀ l : List ℕ) (a : EngineAnswer) (m : List ℕ) : Type 0 where
   pub same-length : length l ≡ length l₀
   pub done : (places : List ℕ) (n : ℕ) → draws (wordsOf g) (boundsFrom (last + 1) true last) budget ≡ all places n
-      → (l ≡ arranged last places l₀) × (handed a m ≡ answeredIn g (gives 0 n))
+      → (l ≡ arranged last places l₀) × (joinedAnswer a m ≡ answered g (gives 0 n))
 
-module _ {g : Gen} {last budget taken at : ℕ} {l₀ l : List ℕ} {a : EngineAnswer} (m : List ℕ) (h : Performing (wordsOf g) last budget taken at l₀ l) where
-  pub performed-all : {block : List ℕ} (e : Engine) → Blocks g taken (lent e m) block → a ≡ accepting 0 taken e → at ≡ 0 → Performed g last budget l₀ l a m
+module _ {g : Random} {last budget taken at : ℕ} {l₀ l : List ℕ} {a : EngineAnswer} (m : List ℕ) (h : Performing (wordsOf g) last budget taken at l₀ l) where
+  pub performed-all : {block : List ℕ} (e : Engine) → Blocks g taken (joinedWith e m) block → a ≡ accepting 0 taken e → at ≡ 0 → Performed g last budget l₀ l a m
   performed-all e b p z = record {
     same-length = performing-length h;
     done = λ places n q.

@@ -1,6 +1,5 @@
 -- "A shuffle obeys this draw after draw under one budget" (the order, demand 3), place by place: the place i draws below i + 1, from the word just past
 -- those of the places above it and with the budget that they left, and draws no place above i.
--- Assumes nothing.
 use mathlib.Core.Path.{_≡_, _∙_, ap}
 use mathlib.Core.Bool.{true}
 use mathlib.Core.List.{List, _∷_, _++_}

@@ -1,5 +1,4 @@
 -- The loop of a rehearsal: what holds after some words, with one law for each way through it.
--- Assumes nothing.
 use mathlib.Core.Path.{_≡_, refl, _∙_, ap}
 use mathlib.Core.Bool.{Bool, true, false}
 use mathlib.Core.List.{List, [], _∷_, _++_}

@@ -1,5 +1,4 @@
 -- A shuffled list has the same entries: as many, and every number as often as before.
--- Assumes nothing.
 use mathlib.Core.Path.{_≡_, refl, _∙_, ap}
 use mathlib.Core.Bool.{Bool, true, false, cond}
 use mathlib.Core.List.{List, [], _∷_}

@@ -1,5 +1,4 @@
 -- "So a larger budget never changes an answer given" (the order, demand 3), of the shuffle: its value, its words used, the next generator and the list.
--- Assumes nothing.
 use mathlib.Core.Path.{_≡_, refl, ap}
 use mathlib.Core.Bool.{Bool, true, false, cond}
 use mathlib.Core.List.{List}
@@ -12,10 +11,9 @@ use Rattle.words.specs.Draw.{Words, Drawn, all, short, draws, refused, outcomeO
 use Rattle.words.specs.LargerBudget.{call-larger}
 use Rattle.words.specs.UsedWithinBudget.{draws-within}
 use Rattle.random.specs.declared.backend.Random.{Random}
-use Rattle.random.specs.Generator.{Gen, wordsOf}
+use Rattle.random.specs.Generator.{wordsOf}
 use Rattle.bounded.specs.Answers as answer
-use Rattle.bounded.specs.Answers.{wordsFrom, answeredIn}
-use Rattle.bounded.specs.Budgeted.{Budgeted, checked-budgeted, answer-larger, answer-larger-in}
+use Rattle.bounded.specs.Budgeted.{Budgeted, checked-budgeted, answer-larger}
 use Rattle.bounded.specs.Limit.{listLimit}
 use Rattle.shuffle.specs.Bounds.{boundsFrom}
 use Rattle.shuffle.specs.Shuffle.{placesDrawn, shuffleBy, listAfter, shuffled}
@@ -51,14 +49,9 @@ list-larger s l b b′ h = go (ltb listLimit (length l))
     go true a = refl
     go false a = ap (listAfter l) (call-larger (λ places. 0) s (boundsFrom (length l) true (length l - 1)) b b′ h a)
 
--- and so the whole answer, by value and over a lent table.
+-- and so the whole answer.
 module _ (l : List ℕ) (b b′ : ℕ) (h : b ≤ b′) where
-  pub shuffle-larger : (g : Random) → shuffleBy (wordsFrom g) (length l) b .refusal ≡ answered
-      → (answer.answered g (shuffleBy (wordsFrom g) (length l) b′) ≡ answer.answered g (shuffleBy (wordsFrom g) (length l) b))
-      × (shuffled (wordsFrom g) l b′ ≡ shuffled (wordsFrom g) l b)
-  shuffle-larger g a = (answer-larger (shuffle-budgeted (length l)) b b′ h g a, list-larger (wordsFrom g) l b b′ h a)
-
-  pub shuffle-larger-in : (g : Gen) → shuffleBy (wordsOf g) (length l) b .refusal ≡ answered
-      → (answeredIn g (shuffleBy (wordsOf g) (length l) b′) ≡ answeredIn g (shuffleBy (wordsOf g) (length l) b))
+  pub shuffle-larger : (g : Random) → shuffleBy (wordsOf g) (length l) b .refusal ≡ answered
+      → (answer.answered g (shuffleBy (wordsOf g) (length l) b′) ≡ answer.answered g (shuffleBy (wordsOf g) (length l) b))
       × (shuffled (wordsOf g) l b′ ≡ shuffled (wordsOf g) l b)
-  shuffle-larger-in g a = (answer-larger-in (shuffle-budgeted (length l)) b b′ h g a, list-larger (wordsOf g) l b b′ h a)
+  shuffle-larger g a = (answer-larger (shuffle-budgeted (length l)) b b′ h g a, list-larger (wordsOf g) l b b′ h a)

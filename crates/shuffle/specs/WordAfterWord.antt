@@ -1,6 +1,5 @@
 -- For code that draws below each bound of a list and looks at one word after the other, from any source: what holds after some words
 -- (`Underway`), with one law for each way a word may go.
--- Assumes nothing.
 use mathlib.Core.Path.{_≡_, refl, sym, _∙_, ap}
 use mathlib.Core.Bool.{Bool, true, false}
 use mathlib.Core.List.{List, [], _∷_, _++_, append-assoc}

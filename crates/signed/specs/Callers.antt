@@ -1,6 +1,5 @@
 -- What a caller cites that has signed numbers of 32 bits: its facts speak of x as `read x`, what the machine reads back of x's bits,
 -- and these laws tell the same of x itself. `f` and `g` are `c .fits .min` and `c .fits .max`.
--- Assumes nothing.
 use mathlib.Core.Path.{_≡_, _∙_}
 use mathlib.Core.Bool.{Bool}
 use Prim.Native.Nat.{ℕ, _^_, _≤_, _<_}

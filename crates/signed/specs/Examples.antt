@@ -1,5 +1,4 @@
 -- Worked examples of the definitions (document 01): `int` over its full span, from -1 to 1 and from 5 to 5, and words at the ends of their halves.
--- Assumes nothing.
 use mathlib.Core.Path.{_≡_, refl}
 use lib.IntN.{ℤ, pos, negℤ}
 use Rattle.signed.specs.Signed.{signedOf, wrappedSum, gap}

@@ -1,5 +1,4 @@
 -- The laws of words read as signed, once over the width.
--- Assumes nothing.
 use mathlib.Core.Path.{_≡_, refl}
 use mathlib.Core.Bool.{Bool, true, false, cond}
 use Prim.Native.Nat.{ℕ, suc, _-_, _^_, _<_}

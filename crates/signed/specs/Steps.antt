@@ -1,5 +1,4 @@
 -- The steps in which the code works: a word of the upper half, a number that is lifted above zero, and the span in 64 bits.
--- Assumes nothing.
 use mathlib.Core.Path.{_≡_, refl, sym, _∙_}
 use mathlib.Core.Bool.{Bool, true, false, true≢false}
 use Prim.Native.Nat.{ℕ, zero, suc, _+_, _-_, _%_, _^_, _≤_, _<_}

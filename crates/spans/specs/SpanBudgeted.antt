@@ -1,6 +1,5 @@
 -- `uint`, `int` and `range` are budgeted calls: "a larger budget never changes an answer given" (the order, demand 3), a refusal tells its number
 -- alone, and the words used are within the budget.
--- Assumes nothing.
 use mathlib.Core.Path.{_≡_, refl, sym, ap, subst, fun-ext}
 use mathlib.Core.Bool.{cond}
 use Prim.Native.Nat.{ℕ, zero, suc, _+_, _-_, _≤_}
@@ -13,11 +12,10 @@ use Rattle.words.specs.Refusal.{answered, order}
 use Rattle.words.specs.Draw.{Words, Outcome, refused}
 use Rattle.signed.specs.Signed.{gap}
 use Rattle.random.specs.declared.backend.Random.{Random}
-use Rattle.random.specs.Generator.{Gen, wordsOf}
-use Rattle.bounded.specs.Answers.{wordsFrom}
+use Rattle.random.specs.Generator.{wordsOf}
 use Rattle.bounded.specs.Budgeted.{Budgeted, bounded-budgeted, raised-budgeted, checked-budgeted}
 use Rattle.spans.specs.Spans.{spanBy, uintBy, intRefused, countedFrom, intBy}
-use Rattle.spans.specs.IntAnswers.{intAnswered, intAnsweredIn}
+use Rattle.spans.specs.IntAnswers.{intAnswered}
 use Rattle.spans.specs.SpanLaws.{span-none, span-drawn}
 
 budgeted-same : {call other : Words → ℕ → Outcome} → ((s : Words) (b : ℕ) → call s b ≡ other s b) → Budgeted other → Budgeted call
@@ -60,12 +58,8 @@ module _ (min max : ℤ) (s : Words) (b : ℕ) where
   unfolding intBy countedFrom
   int-within = span-of-budgeted min max .within s b
 
--- and so of the answers, by value and over a lent table
+-- and so of the answers
 module _ (min max : ℤ) (b b′ : ℕ) (h : b ≤ b′) where
-  pub int-answer-larger : (g : Random) → intBy (wordsFrom g) min max b .refusal ≡ answered
-      → intAnswered g (intBy (wordsFrom g) min max b′) ≡ intAnswered g (intBy (wordsFrom g) min max b)
-  int-answer-larger g a = ap (intAnswered g) (int-larger min max (wordsFrom g) b b′ h a)
-
-  pub int-answer-larger-in : (g : Gen) → intBy (wordsOf g) min max b .refusal ≡ answered
-      → intAnsweredIn g (intBy (wordsOf g) min max b′) ≡ intAnsweredIn g (intBy (wordsOf g) min max b)
-  int-answer-larger-in g a = ap (intAnsweredIn g) (int-larger min max (wordsOf g) b b′ h a)
+  pub int-answer-larger : (g : Random) → intBy (wordsOf g) min max b .refusal ≡ answered
+      → intAnswered g (intBy (wordsOf g) min max b′) ≡ intAnswered g (intBy (wordsOf g) min max b)
+  int-answer-larger g a = ap (intAnswered g) (int-larger min max (wordsOf g) b b′ h a)

@@ -1,5 +1,4 @@
 -- The definitions of Spans by their cases.
--- Assumes nothing.
 use mathlib.Core.Path.{_≡_, refl, sym, _∙_, ap}
 use mathlib.Core.Bool.{Bool, true, false}
 use mathlib.Core.List.{List}
@@ -16,11 +15,12 @@ use Rattle.words.specs.AnswerIsFirst.{first-is-answer}
 use Rattle.signed.specs.Signed.{gap}
 use Rattle.random.specs.declared.engine.Engine.{Engine}
 use Rattle.random.specs.declared.engine.EngineWord.{EngineWord}
-use Rattle.random.specs.Generator.{wordOf, step, advance, wordsOf, Drawn, drawn32}
-use Rattle.random.specs.GeneratorLaws.{advance-none, advance-one, word-at}
-use Rattle.random.specs.Lent.{lent, given}
+use Rattle.random.specs.Generator.{wordOf, step, later, wordsOf, randOf}
+use Rattle.random.specs.declared.by_value.Word32.{Word32}
+use Rattle.random.specs.GeneratorLaws.{later-none, later-one, word-at}
+use Rattle.random.specs.Lent.{joinedWith, joinedWord}
 use Rattle.bounded.specs.declared.answers.EngineAnswer.{EngineAnswer}
-use Rattle.bounded.specs.Answers.{handed, answeredIn, accepting}
+use Rattle.bounded.specs.Answers.{joinedAnswer, answered, accepting}
 use Rattle.bounded.specs.AnswerLaws.{accepting-answers}
 use Rattle.bounded.specs.Ranges.{raised}
 use Rattle.spans.specs.Spans.{rawBy, spanBy, uintBy, countedFrom, intBy}
@@ -95,11 +95,11 @@ module _ (s : Words) (min max : ℤ) (budget : ℕ) where
 
 -- ---- the first word of a generator, as the code answers it
 
-pub raw-answers : {a : EngineAnswer} {w : EngineWord} {budget : ℕ} (e : Engine) (m m′ : List ℕ) → 0 < budget → given w m′ ≡ drawn32 (lent e m)
-    → a ≡ accepting (w .word) 1 (w .next) → handed a m′ ≡ answeredIn (lent e m) (rawBy (wordsOf (lent e m)) budget)
-unfolding drawn32
+pub raw-answers : {a : EngineAnswer} {w : EngineWord} {budget : ℕ} (e : Engine) (m m′ : List ℕ) → 0 < budget → joinedWord w m′ ≡ randOf (joinedWith e m)
+    → a ≡ accepting (w .word) 1 (w .next) → joinedAnswer a m′ ≡ answered (joinedWith e m) (rawBy (wordsOf (joinedWith e m)) budget)
+unfolding randOf
 raw-answers {w = w} {budget = budget} e m m′ some d p =
-    let g = lent e m in
-    let next : lent (w .next) m′ ≡ advance 1 g = ap (λ (x : Drawn). x .next) d ∙ ap step (sym (advance-none g)) ∙ sym (advance-one 0 g) in
-    let word : wordsOf g 0 ≡ w .word = sym (word-at 0 g) ∙ ap wordOf (advance-none g) ∙ sym (ap (λ (x : Drawn). x .word) d) in
+    let g = joinedWith e m in
+    let next : joinedWith (w .next) m′ ≡ later 1 g = ap (λ (x : Word32). x .next) d ∙ ap step (sym (later-none g)) ∙ sym (later-one 0 g) in
+    let word : wordsOf g 0 ≡ w .word = sym (word-at 0 g) ∙ ap wordOf (later-none g) ∙ sym (ap (λ (x : Word32). x .word) d) in
     accepting-answers (w .next) m′ g p (raw-word (wordsOf g) budget some ∙ ap (λ (v : ℕ). gives v 1) word) next

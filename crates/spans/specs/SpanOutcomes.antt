@@ -1,6 +1,5 @@
 -- Exactly one outcome for `uint`, `int` and `range`, said as a relation in document 01's words: when each is refused, and with which number; and
 -- that an answer lies between the two ends.
--- Assumes nothing.
 use mathlib.Core.Path.{_≡_, refl, _∙_, ap}
 use mathlib.Core.Bool.{Bool, true, false}
 use mathlib.Core.Logic.{_↔_}

@@ -1,5 +1,4 @@
 -- The laws of answers at the boundary: a kind above 3 is refused, and the answer to every other is the library's.
--- Assumes nothing.
 use mathlib.Core.Path.{_≡_, refl, sym, _∙_, ap}
 use mathlib.Core.List.{List}
 use Prim.Native.Nat.{ℕ, _≤_, _<_}

@@ -1,6 +1,5 @@
 -- The laws of the boundary: the two conversions invert each other. An engine's parts are that engine's; and the parts of a known kind, made
 -- an engine and read out again, are as they came.
--- Assumes nothing.
 use mathlib.Core.Path.{_≡_, refl, sym, _∙_, ap}
 use Prim.Native.Nat.{ℕ, zero, suc, _≤_}
 use native.Mathlib.Omega.{arith}

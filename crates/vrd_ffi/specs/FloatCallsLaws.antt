@@ -1,5 +1,4 @@
 -- The laws of the exports of floats: what the code builds of what is drawn over the lent table.
--- Assumes nothing.
 use mathlib.Core.Bool.{Bool}
 use mathlib.Core.Path.{_≡_, _∙_, ap, sym}
 use mathlib.Core.List.{List}

@@ -1,5 +1,4 @@
 -- The laws of the exports of state by value: the tables beside what the call without a table answers.
--- Assumes nothing.
 use mathlib.Core.Path.{_≡_, sym, _∙_, ap}
 use mathlib.Core.List.{List}
 use Prim.Native.Nat.{ℕ}

@@ -1,5 +1,4 @@
 -- The laws of the exports in place: the twister's words, the first word of a draw, and parts written back, whose kind is the one that came.
--- Assumes nothing.
 use mathlib.Core.Path.{_≡_, refl, sym, _∙_, ap}
 use mathlib.Core.Bool.{Bool, true}
 use mathlib.Core.List.{List}

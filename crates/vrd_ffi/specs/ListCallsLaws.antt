@@ -1,5 +1,4 @@
 -- The laws of the exports over lists and buffers: what the code builds of what the library answers.
--- Assumes nothing.
 use mathlib.Core.Path.{_≡_, _∙_, ap, ap₂}
 use mathlib.Core.List.{List}
 use Prim.Native.Nat.{ℕ, _≤_}

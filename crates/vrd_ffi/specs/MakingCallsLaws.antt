@@ -1,5 +1,4 @@
 -- The laws of making: what the code builds of what the library made.
--- Assumes nothing.
 use mathlib.Core.Path.{_≡_, refl, sym, _∙_, ap}
 use mathlib.Core.List.{List}
 use Prim.Native.Nat.{ℕ}

@@ -1,5 +1,4 @@
 -- Each promise of an export in place leaves one answer: two that both meet it are equal, and leave the same position, small words and table.
--- Assumes nothing.
 use mathlib.Core.List.{List}
 use mathlib.Core.Path.{_≡_, sym, _∙_, ap}
 use Prim.Native.Nat.{ℕ}

@@ -1,5 +1,4 @@
 -- What an export tells is its answer and the table that it leaves: each is read back from what is told.
--- Assumes nothing.
 use mathlib.Core.Bool.{Bool}
 use mathlib.Core.List.{List}
 use mathlib.Core.Path.{_≡_, sym, _∙_, ap, ap₂}

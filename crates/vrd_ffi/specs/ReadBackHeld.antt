@@ -1,5 +1,4 @@
 -- What an export by value tells is its answer, the generator's table with it: each is read back from what is told.
--- Assumes nothing.
 use mathlib.Core.Bool.{Bool}
 use mathlib.Core.List.{List}
 use mathlib.Core.Path.{_≡_, ap}

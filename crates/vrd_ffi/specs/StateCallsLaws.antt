@@ -1,5 +1,4 @@
 -- The laws of the exports of state: what the code builds of what the library answers.
--- Assumes nothing.
 use mathlib.Core.Bool.{Bool, false}
 use mathlib.Core.Path.{_≡_, refl, sym, _∙_, ap}
 use mathlib.Core.List.{List}

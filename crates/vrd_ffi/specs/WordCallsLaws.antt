@@ -1,5 +1,4 @@
 -- The laws of the exports of words: what the code builds of a word drawn over the lent table.
--- Assumes nothing.
 use mathlib.Core.Path.{_≡_, _∙_, ap}
 use mathlib.Core.List.{List}
 use Prim.Native.Nat.{ℕ, _≤_}

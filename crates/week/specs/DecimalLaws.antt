@@ -1,5 +1,4 @@
 -- For code that reads a number digit by digit: what holds before the digit at i (`Reading`), with one law for each way the digit may go.
--- Assumes nothing.
 use mathlib.Core.Path.{_≡_, refl, sym, _∙_, ap}
 use mathlib.Core.Bool.{true, false}
 use mathlib.Core.List.{List, [], _∷_}

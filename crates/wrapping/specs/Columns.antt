@@ -1,5 +1,4 @@
 -- The columns in which a product of two words of 64 bits is worked out by halves of 32 bits, and that they are the product.
--- Assumes nothing.
 use mathlib.Core.Path.{_≡_, sym, _∙_}
 use Prim.Native.Nat.{ℕ, _+_, _-_, _*_, _/_, _%_, _^_, _≤_, _<_}
 use native.Mathlib.Nat.{div-add-mod', mul-le-mul}

@@ -1,5 +1,4 @@
 -- The laws of rotations, once over the width.
--- Assumes nothing.
 use mathlib.Core.Path.{_≡_, refl}
 use Prim.Native.Nat.{ℕ, _+_, _-_, _*_, _/_, _%_, _^_, _≤_, _<_}
 use native.Mathlib.Nat.{add-comm, mul-one, mul-mod-left, mod-eq-of-lt, div-eq-of-lt}

@@ -1,5 +1,4 @@
 -- The laws of numbers held as two words: their words are read off, and the words of a sum and of a product modulo 2 ^ 128.
--- Assumes nothing.
 use mathlib.Core.Path.{_≡_, sym, ap, _∙_}
 use Prim.Native.Nat.{ℕ, _+_, _*_, _/_, _%_, _^_, _≤_, _<_}
 use native.Mathlib.Nat.{div-add-mod', mul-add-mod-self-right, add-assoc, add-left-comm, mod-add-mod}

@@ -1,5 +1,4 @@
 -- What follows of seeding: two seed numbers, and the byte seeds that fold to them, give one generator.
--- Assumes nothing.
 use mathlib.Core.Path.{_≡_, refl}
 use mathlib.Core.List.{List}
 use Prim.Native.Nat.{ℕ}

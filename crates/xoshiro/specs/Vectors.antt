@@ -1,5 +1,4 @@
 -- Worked examples of the definitions: SplitMix64 from 1234567, and xoshiro256++ and its jump from the state 1, 2, 3, 4.
--- Assumes nothing.
 use mathlib.Core.Path.{_≡_, refl}
 use Rattle.xoshiro.specs.declared.Xoshiro256PlusPlus.{Xoshiro256PlusPlus}
 use Rattle.xoshiro.specs.Generator.{parts, result, stepped}

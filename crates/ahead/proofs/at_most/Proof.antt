@@ -1,4 +1,4 @@
--- `at_most` meets its contract. Assumes nothing.
+-- `at_most` meets its contract.
 use borrow.Author.Needs.{needs}
 use borrow.Author.Tests.{lt-ltb, le-ltb}
 use Rattle.ahead.proofs.at_most.Statement.{statement}

@@ -1,4 +1,4 @@
--- `words_in` meets its contract, kind by kind. Assumes nothing.
+-- `words_in` meets its contract, kind by kind.
 use borrow.Author.Needs.{needs}
 use Rattle.ahead.proofs.words_in.Statement.{statement}
 use Rattle.ahead.proofs.words_in.Tie as tie

@@ -1,4 +1,4 @@
--- `xoshiro_words` meets its contract: the invariant is that i words are put. Assumes nothing.
+-- `xoshiro_words` meets its contract: the invariant is that i words are put.
 use borrow.Author.Needs.{needs}
 use mathlib.Core.Path.{_≡_}
 use native.Mathlib.Omega.{arith}

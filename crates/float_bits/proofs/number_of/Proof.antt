@@ -1,4 +1,4 @@
--- `number_of` meets its contract: a NaN's pattern, the sign aside, is above the infinity's. Assumes nothing.
+-- `number_of` meets its contract: a NaN's pattern, the sign aside, is above the infinity's.
 use borrow.Author.Tests.{lt-ltb, le-ltb}
 use lib.Ieee.{ofBits}
 use lib.Ieee.Bits.{nanBits-above}

@@ -1,4 +1,4 @@
--- `pattern_of` meets its contract. Assumes nothing.
+-- `pattern_of` meets its contract.
 use Rattle.float_bits.specs.NanLaws.{differs-from-itself}
 use Rattle.float_bits.proofs.pattern_of.Statement.{statement}
 use Rattle.float_bits.proofs.pattern_of.Tie as tie

@@ -1,4 +1,4 @@
--- `signed_u64` meets its contract. Assumes nothing.
+-- `signed_u64` meets its contract.
 use mathlib.Core.Path.{refl}
 use native.Mathlib.Omega.{arith}
 use mir.Syntax.{w64}

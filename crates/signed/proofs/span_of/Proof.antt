@@ -1,4 +1,4 @@
--- `span_of` meets its contract. Assumes nothing.
+-- `span_of` meets its contract.
 use mathlib.Core.Path.{ap}
 use lib.IntN.{natAbs}
 use Rattle.signed.specs.GapLaws.{gap-small}

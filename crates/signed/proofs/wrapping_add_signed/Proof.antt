@@ -1,4 +1,4 @@
--- `wrapping_add_signed` meets its contract. Assumes nothing.
+-- `wrapping_add_signed` meets its contract.
 use native.Mathlib.Omega.{arith}
 use mathlib.Core.Path.{_∙_, ap}
 use mir.Syntax.{w32}

@@ -1,4 +1,4 @@
--- `run` meets its contract: a day within the limit is a part of the longest. Assumes nothing.
+-- `run` meets its contract: a day within the limit is a part of the longest.
 use mathlib.Core.Path.{sym}
 use native.Mathlib.Omega.{arith}
 use borrow.Author.Needs.{needs}

@@ -1,4 +1,4 @@
--- `bench_draws_lent` meets its contract: the loop, its engine read out as parts. Assumes nothing.
+-- `bench_draws_lent` meets its contract: the loop, its engine read out as parts.
 use Rattle.bench_draws.specs.Sums.{told-lent}
 use borrow.Author.Needs.{needs}
 use Rattle.bench_draws.proofs.exports.bench_draws_lent.Statement.{statement}

@@ -1,4 +1,4 @@
--- `draws_in` meets its contract. The loop's invariant: it has made i draws. Assumes nothing.
+-- `draws_in` meets its contract. The loop's invariant: it has made i draws.
 use mathlib.Core.Path.{_≡_}
 use Prim.Native.Nat.{_≤_, _-_}
 use native.Mathlib.Omega.{arith}

@@ -1,4 +1,4 @@
--- `bench_draws_by_value` meets its contract: the loop, its generator read out as parts and table. Assumes nothing.
+-- `bench_draws_by_value` meets its contract: the loop, its generator read out as parts and table.
 use Rattle.bench_draws_by_value.specs.Sums.{told-by-value}
 use borrow.Author.Needs.{needs}
 use Rattle.bench_draws_by_value.proofs.exports.bench_draws_by_value.Statement.{statement}

@@ -1,4 +1,4 @@
--- `are_said` is safe and ends. Assumes nothing.
+-- `are_said` is safe and ends.
 use borrow.Author.Needs.{needs}
 use Prim.Native.Nat.{_≤_, _-_}
 use Rattle.bench_examples.proofs.bytes.are_said.Statement.{statement}

@@ -1,4 +1,4 @@
--- `run` is safe and ends: the places stay within the tables. Assumes nothing.
+-- `run` is safe and ends: the places stay within the tables.
 use borrow.Author.Needs.{needs}
 use Prim.Native.Nat.{_≤_, _-_}
 use Rattle.bench_examples.proofs.float_rows.run.Statement.{statement}

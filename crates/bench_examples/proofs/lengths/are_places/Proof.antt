@@ -1,4 +1,4 @@
--- `are_places` is safe and ends: the place stays within the list. Assumes nothing.
+-- `are_places` is safe and ends: the place stays within the list.
 use borrow.Author.Needs.{needs}
 use lib.ListN.{length}
 use Prim.Native.Nat.{_≤_, _-_}

@@ -1,4 +1,4 @@
--- `number_places` is safe and ends: the place stays within the list, whose length is kept. Assumes nothing.
+-- `number_places` is safe and ends: the place stays within the list, whose length is kept.
 use borrow.Author.Needs.{needs}
 use mathlib.Core.Path.{_≡_}
 use lib.ListN.{length}

@@ -1,4 +1,4 @@
--- `first_word` is safe and ends: the two ends close in on each other. Assumes nothing.
+-- `first_word` is safe and ends: the two ends close in on each other.
 use borrow.Author.Needs.{needs}
 use Prim.Native.Nat.{_≤_, _-_, _^_}
 use Rattle.bench_examples.proofs.shares.first_word.Statement.{statement}

@@ -1,4 +1,4 @@
--- `run` is safe and ends. Assumes nothing.
+-- `run` is safe and ends.
 use borrow.Author.Needs.{needs}
 use Prim.Native.Nat.{_≤_, _-_}
 use Rattle.bench_examples.proofs.shares.run.Statement.{statement}

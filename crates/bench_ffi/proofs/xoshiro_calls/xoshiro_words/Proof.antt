@@ -1,4 +1,4 @@
--- `xoshiro_words` meets its contract. The loop's invariant: it has come i words far. Assumes nothing.
+-- `xoshiro_words` meets its contract. The loop's invariant: it has come i words far.
 use borrow.Author.Needs.{needs}
 use native.Mathlib.Omega.{arith}
 use mathlib.Core.Path.{_≡_}

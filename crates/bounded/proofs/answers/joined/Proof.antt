@@ -1,4 +1,4 @@
--- `joined` meets its contract. Assumes nothing.
+-- `joined` meets its contract.
 use borrow.Author.Needs.{needs}
 use Rattle.bounded.proofs.answers.joined.Statement.{statement}
 use Rattle.bounded.proofs.answers.joined.Tie as tie

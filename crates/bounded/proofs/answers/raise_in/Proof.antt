@@ -1,4 +1,4 @@
--- `raise_in` meets its contract. Assumes nothing.
+-- `raise_in` meets its contract.
 use borrow.Author.Tests.{eq-eqb, ne-eqb}
 use borrow.Author.Needs.{needs}
 use Rattle.bounded.specs.Answers.{raisedAnswer}

@@ -1,7 +1,6 @@
--- `bounded` meets its contract: the answer over the lent table, and the table joined to it. Assumes nothing.
+-- `bounded` meets its contract: the answer over the lent table, and the table joined to it.
 use mathlib.Core.Path.{_∙_}
 use borrow.Author.Needs.{needs}
-use Rattle.bounded.specs.AnswerLaws.{joined-answers}
 use Rattle.bounded.proofs.below.bounded.Statement.{statement}
 use Rattle.bounded.proofs.below.bounded.Tie as tie
 
@@ -17,7 +16,7 @@ joined-requires c κs = search needs
 returns : tie.Need-returns
 returns c =
     let a = c .before .before in
-    c .joined .ensures ∙ joined-answers _ _ (a .bounded-in .result) _ (rw (a .before .before .engine-of .ensures) at (a .bounded-in .ensures .0))
+    c .joined .ensures ∙ rw (a .before .before .engine-of .ensures) at (a .bounded-in .ensures .0)
 
 pub bounded-spec : {M : Type 1} → statement M
 bounded-spec = tie.close (tie.spec engine-of-requires bounded-in-requires joined-requires returns)

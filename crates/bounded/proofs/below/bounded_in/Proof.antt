@@ -1,4 +1,4 @@
--- `bounded_in` meets its contract: the first word where it is ready and good, and otherwise the loop on a table that is as it came. Assumes nothing.
+-- `bounded_in` meets its contract: the first word where it is ready and good, and otherwise the loop on a table that is as it came.
 use mathlib.Core.Path.{_∙_}
 use native.Mathlib.Omega.{arith}
 use borrow.Author.Needs.{needs}

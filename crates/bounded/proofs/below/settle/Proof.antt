@@ -1,4 +1,4 @@
--- `settle` meets its contract: the kinds that don't draw from the table leave it alone. Assumes nothing.
+-- `settle` meets its contract: the kinds that don't draw from the table leave it alone.
 use mathlib.Core.Path.{refl, sym, _∙_}
 use native.Mathlib.Omega.{arith}
 use borrow.Author.Needs.{needs}

@@ -1,4 +1,4 @@
--- `settle_on_copy` meets its contract: the copy is written back where the draw was settled, and there alone. Assumes nothing.
+-- `settle_on_copy` meets its contract: the copy is written back where the draw was settled, and there alone.
 use mathlib.Core.Path.{refl}
 use borrow.Author.Needs.{needs}
 use Rattle.bounded.specs.AnswerLaws.{draws-found, draws-short}

@@ -1,17 +1,17 @@
--- `draw_in` meets its contract: the invariant is `Trying`, and each way through the loop is one law of it. Assumes nothing.
+-- `draw_in` meets its contract: the invariant is `Trying`, and each way through the loop is one law of it.
 use borrow.Author.Needs.{needs}
 use mathlib.Core.Path.{sym}
 use mathlib.Core.Bool.{true≢false}
 use Prim.Native.Nat.{_-_, _<_}
 use native.Mathlib.Omega.{arith}
 use Rattle.words.specs.BelowItsBound.{quotient-below}
-use Rattle.random.specs.Lent.{lent}
+use Rattle.random.specs.Lent.{joinedWith}
 use Rattle.bounded.specs.Trying.{Trying, trying-start, trying-zero, trying-good, trying-bad, trying-out}
 use Rattle.bounded.proofs.draw.draw_in.Statement.{statement}
 use Rattle.bounded.proofs.draw.draw_in.Tie as tie
 
 abbrev Inv-loop : tie.InvT-loop
-Inv-loop mt₀ r budget next₀ used₀ mt next used = Trying (lent next₀ mt₀) r budget used (lent next mt)
+Inv-loop mt₀ r budget next₀ used₀ mt next used = Trying (joinedWith next₀ mt₀) r budget used (joinedWith next mt)
 
 abbrev μ-loop : tie.MeasureT-loop
 μ-loop mt₀ r budget next₀ used₀ mt next used = budget - used

@@ -1,4 +1,4 @@
--- `char_in` meets its contract: a draw below 26, with 97 added. Assumes nothing.
+-- `char_in` meets its contract: a draw below 26, with 97 added.
 use native.Mathlib.Omega.{arith}
 use borrow.Author.Needs.{needs}
 use Rattle.bounded.specs.AnswerLaws.{raised-answers}

@@ -1,7 +1,6 @@
--- `random_range` meets its contract: the answer over the lent table, and the table joined to it. Assumes nothing.
+-- `random_range` meets its contract: the answer over the lent table, and the table joined to it.
 use mathlib.Core.Path.{_∙_}
 use borrow.Author.Needs.{needs}
-use Rattle.bounded.specs.AnswerLaws.{joined-answers}
 use Rattle.bounded.proofs.ranges.random_range.Statement.{statement}
 use Rattle.bounded.proofs.ranges.random_range.Tie as tie
 
@@ -17,7 +16,7 @@ joined-requires c κs = search needs
 returns : tie.Need-returns
 returns c =
     let a = c .before .before in
-    c .joined .ensures ∙ joined-answers _ _ (a .random-range-in .result) _ (rw (a .before .before .engine-of .ensures) at (a .random-range-in .ensures))
+    c .joined .ensures ∙ rw (a .before .before .engine-of .ensures) at (a .random-range-in .ensures)
 
 pub random-range-spec : {M : Type 1} → statement M
 random-range-spec =

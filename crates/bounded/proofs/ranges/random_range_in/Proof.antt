@@ -1,4 +1,4 @@
--- `random_range_in` meets its contract: a draw below max - min, with min added. Assumes nothing.
+-- `random_range_in` meets its contract: a draw below max - min, with min added.
 use native.Mathlib.Omega.{arith}
 use borrow.Author.Needs.{needs}
 use Rattle.bounded.specs.AnswerLaws.{refusing-answers, raised-answers}

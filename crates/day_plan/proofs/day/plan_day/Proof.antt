@@ -1,4 +1,4 @@
--- `plan_day` meets its contract: the answer over the lent table, and the table joined to it. Assumes nothing.
+-- `plan_day` meets its contract: the answer over the lent table, and the table joined to it.
 use mathlib.Core.Path.{_∙_}
 use borrow.Author.Needs.{needs}
 use Rattle.bounded.specs.AnswerLaws.{joined-answers}

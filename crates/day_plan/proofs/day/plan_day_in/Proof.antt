@@ -1,4 +1,4 @@
--- `plan_day_in` meets its contract: the question is settled first, on a table that is as it came. Assumes nothing.
+-- `plan_day_in` meets its contract: the question is settled first, on a table that is as it came.
 use borrow.Author.Needs.{needs}
 use Rattle.day_plan.specs.DayAnswers.{answered-fits, planned-all, planned-refused}
 use Rattle.day_plan.proofs.day.plan_day_in.Statement.{statement}

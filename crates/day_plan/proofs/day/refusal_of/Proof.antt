@@ -1,4 +1,4 @@
--- `refusal_of` meets its contract: the shuffle's checks in its order, and a rehearsal of its draws. Assumes nothing.
+-- `refusal_of` meets its contract: the shuffle's checks in its order, and a rehearsal of its draws.
 use mathlib.Core.Path.{refl}
 use borrow.Author.Needs.{needs}
 use Rattle.day_plan.specs.Asking.{asked-long, asked-tiny, asked-all, asked-short}

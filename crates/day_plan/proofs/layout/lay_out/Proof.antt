@@ -1,4 +1,4 @@
--- `lay_out` meets its contract: the invariant is `LaidTo`. Assumes nothing.
+-- `lay_out` meets its contract: the invariant is `LaidTo`.
 use Prim.Native.Nat.{_-_}
 use native.Mathlib.Omega.{arith}
 use borrow.Author.Needs.{needs}

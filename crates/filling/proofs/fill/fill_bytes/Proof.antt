@@ -1,6 +1,5 @@
--- `fill_bytes` meets its contract: filling over the lent table is the generator's. Assumes nothing.
+-- `fill_bytes` meets its contract: filling over the lent table is the generator's.
 use borrow.Author.Needs.{needs}
-use Rattle.filling.specs.FillLaws.{fill-is}
 use Rattle.filling.proofs.fill.fill_bytes.Statement.{statement}
 use Rattle.filling.proofs.fill.fill_bytes.Tie as tie
 
@@ -20,7 +19,7 @@ returns : tie.Need-returns
 returns c =
     let filled = c .before .before .before .before in
     let drawn = rw (filled .before .before .before .engine-of .ensures) at (filled .fill-bytes-in .ensures) in
-    rw (c .with-table .ensures) (fill-is _ _ _ (filled .fill-bytes-in .result) _ drawn)
+    rw (c .with-table .ensures) drawn
 
 pub fill-bytes-spec : {M : Type 1} → statement M
 fill-bytes-spec =

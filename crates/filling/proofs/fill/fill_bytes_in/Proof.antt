@@ -1,8 +1,9 @@
--- `fill_bytes_in` meets its contract: the whole words, and the low bytes of one more where some room is left. Assumes nothing.
+-- `fill_bytes_in` meets its contract: the whole words, and the low bytes of one more where some room is left.
 use mathlib.Core.Path.{ap}
 use native.Mathlib.Nat.{mod-le}
 use borrow.Author.Needs.{needs}
-use Rattle.random.specs.Generator.{Drawn, drawnOwn}
+use Rattle.random.specs.declared.by_value.Word64.{Word64}
+use Rattle.random.specs.Generator.{ownOf}
 use Rattle.random.specs.GeneratorLaws.{width-positive}
 use Rattle.filling.specs.FillLaws.{tail-fits, filled-whole, filled-tail}
 use Rattle.filling.proofs.fill.fill_bytes_in.Statement.{statement}
@@ -38,14 +39,14 @@ same-length-2 : tie.Need-same-length-2
 same-length-2 c = search needs
 
 returns-2 : tie.Need-returns-2
-unfolding drawnOwn
+unfolding ownOf
 returns-2 c =
     let drawn = c .before .before .before .before .before .next-own .ensures in
     let test = c .before .before .before .before .before .before .before in
     let whole = test .before .before .before in
     let width = whole .before .before .before .width .ensures in
     rw (c .before .before .before .put-few .ensures, width)
-    (filled-tail (whole .whole-words .ensures) _ _ (rw width at (test .if1 .left)) (ap (λ (d : Drawn). d .word) drawn) (ap (λ (d : Drawn). d .next) drawn))
+    (filled-tail (whole .whole-words .ensures) _ _ (rw width at (test .if1 .left)) (ap (λ (d : Word64). d .word) drawn) (ap (λ (d : Word64). d .next) drawn))
 
 pub fill-bytes-in-spec : {M : Type 1} → statement M
 fill-bytes-in-spec =

@@ -1,4 +1,4 @@
--- `put4` meets its contract: four stores are four bytes written. Assumes nothing.
+-- `put4` meets its contract: four stores are four bytes written.
 use mathlib.Core.Path.{_≡_}
 use Prim.Native.Nat.{_+_}
 use native.Mathlib.Omega.{arith}

@@ -1,4 +1,4 @@
--- `put8` meets its contract: four bytes and then four more are eight. Assumes nothing.
+-- `put8` meets its contract: four bytes and then four more are eight.
 use mathlib.Core.Path.{_∙_}
 use borrow.Author.Needs.{needs}
 use Rattle.filling.specs.PokeLaws.{poke-eight}

@@ -1,4 +1,4 @@
--- `put_few` meets its contract: after k of n bytes, what is left to write is the rest. Assumes nothing.
+-- `put_few` meets its contract: after k of n bytes, what is left to write is the rest.
 use borrow.Author.Needs.{needs}
 use mathlib.Core.Path.{_≡_, refl, sym, _∙_}
 use Prim.Native.Nat.{_+_, _-_, _≤_}

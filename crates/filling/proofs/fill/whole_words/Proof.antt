@@ -1,4 +1,4 @@
--- `whole_words` meets its contract, kind by kind. Assumes nothing.
+-- `whole_words` meets its contract, kind by kind.
 use borrow.Author.Needs.{needs}
 use Rattle.filling.specs.FillKinds.{xoshiro-own, twister-own, pcg32-own, pcg64-own}
 use Rattle.filling.proofs.fill.whole_words.Statement.{statement}

@@ -1,4 +1,4 @@
--- `words_of_pcg64` meets its contract: each turn writes two words more, and one may be left after the last. Assumes nothing.
+-- `words_of_pcg64` meets its contract: each turn writes two words more, and one may be left after the last.
 use borrow.Author.Needs.{needs}
 use mathlib.Core.Path.{refl}
 use Prim.Native.Nat.{_-_}

@@ -1,4 +1,4 @@
--- `words_of_twister` meets its contract: each turn writes one word more. Assumes nothing.
+-- `words_of_twister` meets its contract: each turn writes one word more.
 use borrow.Author.Needs.{needs}
 use mathlib.Core.Path.{ap}
 use Prim.Native.Nat.{_-_}

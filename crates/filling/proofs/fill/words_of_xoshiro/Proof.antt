@@ -1,4 +1,4 @@
--- `words_of_xoshiro` meets its contract: each turn writes one word more. Assumes nothing.
+-- `words_of_xoshiro` meets its contract: each turn writes one word more.
 use borrow.Author.Needs.{needs}
 use mathlib.Core.Path.{refl}
 use Prim.Native.Nat.{_-_}

@@ -1,6 +1,5 @@
--- `bool` meets its contract: what is drawn over the lent table is the generator's. Assumes nothing.
+-- `bool` meets its contract: what is drawn over the lent table is the generator's.
 use borrow.Author.Needs.{needs}
-use Rattle.float_draws.specs.Laws.{flip-is}
 use Rattle.float_draws.proofs.coins.bool.Statement.{statement}
 use Rattle.float_draws.proofs.coins.bool.Tie as tie
 
@@ -16,7 +15,7 @@ with-table-requires c κs = search needs
 returns : tie.Need-returns
 returns c =
     let drawn = rw (c .before .before .before .before .before .engine-of .ensures) at (c .before .before .before .bool-in .ensures) in
-    rw (c .with-table .ensures) (flip-is _ _ _ (c .before .before .before .bool-in .result) drawn)
+    rw (c .with-table .ensures) drawn
 
 pub bool-spec : {M : Type 1} → statement M
 bool-spec = tie.close (tie.spec engine-of-requires bool-in-requires with-table-requires returns)

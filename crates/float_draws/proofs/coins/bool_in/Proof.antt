@@ -1,4 +1,4 @@
--- `bool_in` meets its contract. Assumes nothing.
+-- `bool_in` meets its contract.
 use mathlib.Core.Path.{_∙_, sym}
 use borrow.Author.Needs.{needs}
 use Rattle.float_draws.specs.Laws.{flip-taken, flip-refused}

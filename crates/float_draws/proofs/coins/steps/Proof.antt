@@ -1,4 +1,4 @@
--- `steps` meets its contract. Assumes nothing.
+-- `steps` meets its contract.
 use mathlib.Core.Path.{_∙_, sym}
 use borrow.Author.Needs.{needs}
 use Rattle.float_draws.specs.Laws.{steps-wide, steps-narrow}

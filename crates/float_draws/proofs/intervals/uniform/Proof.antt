@@ -1,6 +1,5 @@
--- `uniform` meets its contract: what is drawn over the lent table is the generator's. Assumes nothing.
+-- `uniform` meets its contract: what is drawn over the lent table is the generator's.
 use borrow.Author.Needs.{needs}
-use Rattle.float_draws.specs.Laws.{spread-is}
 use Rattle.float_draws.proofs.intervals.uniform.Statement.{statement}
 use Rattle.float_draws.proofs.intervals.uniform.Tie as tie
 
@@ -16,7 +15,7 @@ with-table-requires c κs = search needs
 returns : tie.Need-returns
 returns c =
     let drawn = rw (c .before .before .before .before .before .engine-of .ensures) at (c .before .before .before .uniform-in .ensures) in
-    rw (c .with-table .ensures) (spread-is _ _ _ (c .before .before .before .uniform-in .result) drawn)
+    rw (c .with-table .ensures) drawn
 
 pub uniform-spec : {M : Type 1} → statement M
 uniform-spec =

@@ -1,4 +1,4 @@
--- `uniform_in` meets its contract. Assumes nothing.
+-- `uniform_in` meets its contract.
 use mathlib.Core.Path.{_∙_, sym}
 use borrow.Author.Needs.{needs}
 use Rattle.float_draws.specs.Laws.{spread-taken, spread-refused}

@@ -1,6 +1,5 @@
--- `double` meets its contract: what is drawn over the lent table is the generator's. Assumes nothing.
+-- `double` meets its contract: what is drawn over the lent table is the generator's.
 use borrow.Author.Needs.{needs}
-use Rattle.float_draws.specs.Laws.{double-is}
 use Rattle.float_draws.proofs.units.double.Statement.{statement}
 use Rattle.float_draws.proofs.units.double.Tie as tie
 
@@ -16,7 +15,7 @@ with-table-requires c κs = search needs
 returns : tie.Need-returns
 returns c =
     let drawn = rw (c .before .before .before .before .before .engine-of .ensures) at (c .before .before .before .double-in .ensures) in
-    rw (c .with-table .ensures) (double-is _ _ (c .before .before .before .double-in .result) drawn)
+    rw (c .with-table .ensures) drawn
 
 pub double-spec : {M : Type 1} → statement M
 double-spec =

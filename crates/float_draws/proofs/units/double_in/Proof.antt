@@ -1,4 +1,4 @@
--- `double_in` meets its contract. Assumes nothing.
+-- `double_in` meets its contract.
 use borrow.Author.Needs.{needs}
 use Rattle.float_draws.specs.Laws.{double-in}
 use Rattle.float_draws.proofs.units.double_in.Statement.{statement}

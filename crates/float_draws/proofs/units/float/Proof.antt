@@ -1,6 +1,5 @@
--- `float` meets its contract: what is drawn over the lent table is the generator's. Assumes nothing.
+-- `float` meets its contract: what is drawn over the lent table is the generator's.
 use borrow.Author.Needs.{needs}
-use Rattle.float_draws.specs.Laws.{float-is}
 use Rattle.float_draws.proofs.units.float.Statement.{statement}
 use Rattle.float_draws.proofs.units.float.Tie as tie
 
@@ -16,7 +15,7 @@ with-table-requires c κs = search needs
 returns : tie.Need-returns
 returns c =
     let drawn = rw (c .before .before .before .before .before .engine-of .ensures) at (c .before .before .before .float-in .ensures) in
-    rw (c .with-table .ensures) (float-is _ _ (c .before .before .before .float-in .result) drawn)
+    rw (c .with-table .ensures) drawn
 
 pub float-spec : {M : Type 1} → statement M
 float-spec = tie.close (tie.spec engine-of-requires float-in-requires with-table-requires returns)

@@ -1,4 +1,4 @@
--- `float_in` meets its contract. Assumes nothing.
+-- `float_in` meets its contract.
 use borrow.Author.Needs.{needs}
 use Rattle.float_draws.specs.Laws.{float-in}
 use Rattle.float_draws.proofs.units.float_in.Statement.{statement}

@@ -1,4 +1,4 @@
--- `chance` meets its contract. Assumes nothing.
+-- `chance` meets its contract.
 use mathlib.Core.Path.{sym, _∙_}
 use borrow.Author.Needs.{needs}
 use Rattle.floats.proofs.chances.chance.Statement.{statement}

@@ -1,4 +1,4 @@
--- `is_chance` meets its contract. Assumes nothing.
+-- `is_chance` meets its contract.
 use lib.Ieee.{ofBits}
 use Rattle.floats.specs.ChanceLaws.{is-chance-tests}
 use Rattle.floats.proofs.chances.is_chance.Statement.{statement}

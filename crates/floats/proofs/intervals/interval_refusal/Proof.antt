@@ -1,4 +1,4 @@
--- `interval_refusal` meets its contract: each way out is the refusal of the tests that led there. Assumes nothing.
+-- `interval_refusal` meets its contract: each way out is the refusal of the tests that led there.
 use mathlib.Core.Path.{_≡_, sym, _∙_}
 use mathlib.Core.Bool.{true, false}
 use borrow.Author.Tests.{not-true, not-false}

@@ -1,4 +1,4 @@
--- `is_finite` meets its contract: the code compares with both infinities, which it makes as 1 / 0. Assumes nothing.
+-- `is_finite` meets its contract: the code compares with both infinities, which it makes as 1 / 0.
 use lib.Ieee.{ofBits, div, neg}
 use Rattle.floats.specs.FiniteLaws.{finite-tests}
 use Rattle.floats.proofs.intervals.is_finite.Statement.{statement}

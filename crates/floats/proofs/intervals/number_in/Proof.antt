@@ -1,4 +1,4 @@
--- `number_in` meets its contract: the same operations in the same order. Assumes nothing.
+-- `number_in` meets its contract: the same operations in the same order.
 use borrow.Author.Needs.{needs}
 use Rattle.floats.specs.Intervals.{numberIn}
 use Rattle.floats.proofs.intervals.number_in.Statement.{statement}

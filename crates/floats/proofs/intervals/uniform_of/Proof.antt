@@ -1,4 +1,4 @@
--- `uniform_of` meets its contract. Assumes nothing.
+-- `uniform_of` meets its contract.
 use mathlib.Core.Path.{sym, _∙_}
 use borrow.Author.Needs.{needs}
 use Rattle.floats.specs.IntervalLaws.{answered-refused}

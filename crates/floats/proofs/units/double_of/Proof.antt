@@ -1,4 +1,4 @@
--- `double_of` meets its contract: the word's 53 high bits are below 2 ^ 53, so the cast and the product are exact. Assumes nothing.
+-- `double_of` meets its contract: the word's 53 high bits are below 2 ^ 53, so the cast and the product are exact.
 use native.Mathlib.Omega.{arith}
 use lib.Dec.{lit≤}
 use lib.Ieee.{binary64, ofBits}

@@ -1,4 +1,4 @@
--- `float_of` meets its contract: the word's 24 high bits are below 2 ^ 24, so the cast and the product are exact. Assumes nothing.
+-- `float_of` meets its contract: the word's 24 high bits are below 2 ^ 24, so the cast and the product are exact.
 use native.Mathlib.Omega.{arith}
 use lib.Dec.{lit≤}
 use lib.Ieee.{binary32, ofBits}

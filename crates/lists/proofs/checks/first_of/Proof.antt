@@ -1,4 +1,4 @@
--- `first_of` meets its contract. Assumes nothing.
+-- `first_of` meets its contract.
 use mathlib.Core.Path.{sym}
 use Rattle.lists.specs.CheckLaws.{first-passed, first-refuses}
 use Rattle.lists.proofs.checks.first_of.Statement.{statement}

@@ -1,4 +1,4 @@
--- `list_refusal` meets its contract: each way out is a case of `OfList`. Assumes nothing.
+-- `list_refusal` meets its contract: each way out is a case of `OfList`.
 use mathlib.Core.Path.{sym}
 use native.Mathlib.Omega.{arith}
 use Rattle.lists.specs.CheckLaws.{is-empty, too-long, allowed, list-only}

@@ -1,4 +1,4 @@
--- `window_refusal` meets its contract: each way out is a case of `OfWindow`. Assumes nothing.
+-- `window_refusal` meets its contract: each way out is a case of `OfWindow`.
 use mathlib.Core.Path.{sym}
 use native.Mathlib.Omega.{arith}
 use Rattle.lists.specs.CheckLaws.{is-none, too-wide, allowed, window-only}

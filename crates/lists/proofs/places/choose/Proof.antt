@@ -1,6 +1,5 @@
--- `choose` meets its contract: the answer over the lent table, and the table joined to it. Assumes nothing.
+-- `choose` meets its contract: the answer over the lent table, and the table joined to it.
 use borrow.Author.Needs.{needs}
-use Rattle.lists.specs.ChoosingLaws.{joined-choice}
 use Rattle.lists.proofs.places.choose.Statement.{statement}
 use Rattle.lists.proofs.places.choose.Tie as tie
 
@@ -16,7 +15,7 @@ with-table-requires c κs = search needs
 returns : tie.Need-returns
 returns c =
     let a = c .before .before .before in
-    (rw (c .with-table .ensures) (joined-choice _ _ (a .choose-in .result) _ (rw (a .before .before .engine-of .ensures) at (a .choose-in .ensures .0))), a .choose-in .ensures .1)
+    (rw (c .with-table .ensures) (rw (a .before .before .engine-of .ensures) at (a .choose-in .ensures .0)), a .choose-in .ensures .1)
 
 pub choose-spec : {M : Type 1} → statement M
 choose-spec =

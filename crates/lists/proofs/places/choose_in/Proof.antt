@@ -1,4 +1,4 @@
--- `choose_in` meets its contract: the place drawn, and the entry there. Assumes nothing.
+-- `choose_in` meets its contract: the place drawn, and the entry there.
 use native.Mathlib.Omega.{arith}
 use borrow.Author.Needs.{needs}
 use Rattle.lists.specs.Choosing.{chooseBy}

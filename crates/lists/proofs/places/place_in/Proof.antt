@@ -1,4 +1,4 @@
--- `place_in` meets its contract: a draw below the length of a list that is not refused. Assumes nothing.
+-- `place_in` meets its contract: a draw below the length of a list that is not refused.
 use mathlib.Core.Path.{sym, _∙_}
 use native.Mathlib.Omega.{arith}
 use borrow.Author.Needs.{needs}

@@ -1,6 +1,5 @@
--- `rand_slice` meets its contract: the answer over the lent table, and the table joined to it. Assumes nothing.
+-- `rand_slice` meets its contract: the answer over the lent table, and the table joined to it.
 use borrow.Author.Needs.{needs}
-use Rattle.lists.specs.SlicingLaws.{joined-start}
 use Rattle.lists.proofs.windows.rand_slice.Statement.{statement}
 use Rattle.lists.proofs.windows.rand_slice.Tie as tie
 
@@ -16,7 +15,7 @@ with-table-requires c κs = search needs
 returns : tie.Need-returns
 returns c =
     let a = c .before .before .before in
-    (rw (c .with-table .ensures) (joined-start _ _ (a .rand-slice-in .result) _ (rw (a .before .before .engine-of .ensures) at (a .rand-slice-in .ensures .0))), a .rand-slice-in .ensures .1)
+    (rw (c .with-table .ensures) (rw (a .before .before .engine-of .ensures) at (a .rand-slice-in .ensures .0)), a .rand-slice-in .ensures .1)
 
 pub rand-slice-spec : {M : Type 1} → statement M
 rand-slice-spec =

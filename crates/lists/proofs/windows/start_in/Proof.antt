@@ -1,4 +1,4 @@
--- `start_in` meets its contract: a draw below what is left of the list, where neither list nor window is refused. Assumes nothing.
+-- `start_in` meets its contract: a draw below what is left of the list, where neither list nor window is refused.
 use mathlib.Core.Path.{_≡_, sym, _∙_}
 use Prim.Native.Nat.{_≤_, _<_}
 use native.Mathlib.Omega.{arith}

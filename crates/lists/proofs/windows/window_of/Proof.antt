@@ -1,4 +1,4 @@
--- `window_of` meets its contract: no sum wraps, since the window is held against what is left after the start. Assumes nothing.
+-- `window_of` meets its contract: no sum wraps, since the window is held against what is left after the start.
 use mathlib.Core.Path.{sym}
 use mathlib.Core.Logic.{⊎-elim}
 use Prim.Native.Nat.{_+_, _<_}

@@ -1,4 +1,4 @@
--- `make` meets its contract: the kind is looked at first, then the seed's length. Assumes nothing.
+-- `make` meets its contract: the kind is looked at first, then the seed's length.
 use mathlib.Core.Path.{_∙_, sym}
 use borrow.Author.Tests.{eq-eqb, ne-eqb, le-leb, lt-leb}
 use borrow.Author.Needs.{needs}

@@ -1,4 +1,4 @@
--- `of_kind` meets its contract, kind by kind. Assumes nothing.
+-- `of_kind` meets its contract, kind by kind.
 use borrow.Author.Tests.{eq-eqb, ne-eqb}
 use borrow.Author.Needs.{needs}
 use Rattle.making.specs.Make.{ofKind}

@@ -1,4 +1,4 @@
--- `seed_length` meets its contract. Assumes nothing.
+-- `seed_length` meets its contract.
 use borrow.Author.Tests.{eq-eqb, ne-eqb}
 use Rattle.making.proofs.bytes.seed_length.Statement.{statement}
 use Rattle.making.proofs.bytes.seed_length.Tie as tie

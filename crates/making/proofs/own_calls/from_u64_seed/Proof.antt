@@ -1,4 +1,4 @@
--- `from_u64_seed` meets its contract. Assumes nothing.
+-- `from_u64_seed` meets its contract.
 use borrow.Author.Needs.{needs}
 use Rattle.making.proofs.own_calls.from_u64_seed.Statement.{statement}
 use Rattle.making.proofs.own_calls.from_u64_seed.Tie as tie

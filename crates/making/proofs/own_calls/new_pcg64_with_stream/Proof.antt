@@ -1,4 +1,4 @@
--- `new_pcg64_with_stream` meets its contract. Assumes nothing.
+-- `new_pcg64_with_stream` meets its contract.
 use borrow.Author.Needs.{needs}
 use Rattle.making.proofs.own_calls.new_pcg64_with_stream.Statement.{statement}
 use Rattle.making.proofs.own_calls.new_pcg64_with_stream.Tie as tie

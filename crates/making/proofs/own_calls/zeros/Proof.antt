@@ -1,4 +1,4 @@
--- `zeros` meets its contract. Assumes nothing.
+-- `zeros` meets its contract.
 use borrow.Author.Needs.{needs}
 use Rattle.making.proofs.own_calls.zeros.Statement.{statement}
 use Rattle.making.proofs.own_calls.zeros.Tie as tie

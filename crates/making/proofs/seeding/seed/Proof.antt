@@ -1,7 +1,5 @@
--- `seed` meets its contract. Assumes nothing.
-use mathlib.Core.Path.{ap}
+-- `seed` meets its contract.
 use borrow.Author.Needs.{needs}
-use Rattle.making.specs.Seeding.{fresh, seededTo}
 use Rattle.making.proofs.seeding.seed.Statement.{statement}
 use Rattle.making.proofs.seeding.seed.Tie as tie
 
@@ -15,10 +13,8 @@ with-table-requires : tie.Need-with-table-requires
 with-table-requires c κs = search needs
 
 returns : tie.Need-returns
-unfolding seededTo
 returns c =
-    let done = rw (c .before .before .before .before .engine-of .ensures) at (c .before .before .seed-in .ensures) in
-    rw (c .with-table .ensures) (ap fresh done)
+    rw (c .with-table .ensures) (rw (c .before .before .before .before .engine-of .ensures) at (c .before .before .seed-in .ensures))
 
 pub seed-spec : {M : Type 1} → statement M
 seed-spec = tie.close (tie.spec engine-of-requires seed-in-requires with-table-requires returns)

@@ -1,4 +1,4 @@
--- `seed_in` meets its contract, kind by kind. Assumes nothing.
+-- `seed_in` meets its contract, kind by kind.
 use mathlib.Core.Path.{_≡_, ap}
 use native.Mathlib.Omega.{arith}
 use Prim.Native.Nat.{ℕ, _+_, _*_, _^_}
@@ -6,7 +6,7 @@ use borrow.Author.Needs.{needs}
 use Rattle.mersenne_twister.specs.declared.MersenneTwister as twister-type
 use Rattle.pcg.specs.Pcg64 as pcg64
 use Rattle.random.specs.Generator.{gen}
-use Rattle.making.specs.Seeding.{seededIn}
+use Rattle.making.specs.Seeding.{seededTo}
 use Rattle.random.specs.declared.backend.Backend.the-variants.{MersenneTwister, Pcg64}
 use Rattle.making.proofs.seeding.seed_in.Statement.{statement}
 use Rattle.making.proofs.seeding.seed_in.Tie as tie
@@ -53,23 +53,23 @@ engine-with-requires-4 : tie.Need-engine-with-requires-4
 engine-with-requires-4 c κs = search needs
 
 returns : tie.Need-returns
-unfolding seededIn
+unfolding seededTo
 returns c =
     rw (c .before .before .enum-told .given .1, c .engine-with .ensures, c .before .from-u64-seed .ensures)
 
 returns-2 : tie.Need-returns-2
-unfolding seededIn
+unfolding seededTo
 returns-2 c =
     rw (c .before .before .before .enum-told2 .given .1, c .engine-with2 .ensures)
     (ap (λ (t : twister-type.MersenneTwister). gen MersenneTwister t) (c .before .seed-in .ensures))
 
 returns-3 : tie.Need-returns-3
-unfolding seededIn
+unfolding seededTo
 returns-3 c =
     rw (c .before .before .enum-told3 .given .1, c .engine-with3 .ensures, c .before .from-u64-seed2 .ensures)
 
 returns-4 : tie.Need-returns-4
-unfolding seededIn
+unfolding seededTo
 returns-4 c =
     rw (c .before .before .enum-told4 .given .1, c .engine-with4 .ensures, c .before .from-u128-seed .ensures)
     (widened _ _)

@@ -1,4 +1,4 @@
--- `MersenneTwister::from_u32_seed` meets its contract: the table was 624 zeros before. Assumes nothing.
+-- `MersenneTwister::from_u32_seed` meets its contract: the table was 624 zeros before.
 use mathlib.Core.Path.{_∙_, refl}
 use borrow.Author.Needs.{needs}
 use Rattle.mersenne_twister.specs.TableLaws.{seeded-in}

@@ -1,4 +1,4 @@
--- `MersenneTwister::seed` meets its contract: seeding does not see what the table held. Assumes nothing.
+-- `MersenneTwister::seed` meets its contract: seeding does not see what the table held.
 use mathlib.Core.Path.{_≡_, _∙_}
 use lib.ListN.{length}
 use borrow.Author.Needs.{needs}

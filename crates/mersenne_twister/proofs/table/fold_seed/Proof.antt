@@ -1,4 +1,4 @@
--- `fold_seed` meets its contract. The invariant: the first k words are XORed. Assumes nothing.
+-- `fold_seed` meets its contract. The invariant: the first k words are XORed.
 use mathlib.Core.Path.{_≡_, _∙_}
 use Prim.Native.Nat.{_-_, _≤_}
 use native.Mathlib.Numerals.{add-one}

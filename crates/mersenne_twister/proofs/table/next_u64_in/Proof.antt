@@ -1,4 +1,4 @@
--- `next_u64_in` meets its contract: the high word is shifted clear of the low one, so `|` joins them. Assumes nothing.
+-- `next_u64_in` meets its contract: the high word is shifted clear of the low one, so `|` joins them.
 use mathlib.Core.Path.{_≡_}
 use Prim.Native.Nat.{ℕ, _+_, _*_, _%_, _^_, _<_}
 use native.Mathlib.Nat.{mod-eq-of-lt}

@@ -1,4 +1,4 @@
--- `rand_in` meets its contract. `at-join` says once what holds where the arms of the branch meet. Assumes nothing.
+-- `rand_in` meets its contract. `at-join` says once what holds where the arms of the branch meet.
 use mathlib.Core.Logic.{⊎-elim}
 use mathlib.Core.Path.{_≡_, _∙_, ap, ap₂, sym}
 use Prim.Native.Nat.{_<_}

@@ -1,4 +1,4 @@
--- `renew` meets its contract. The invariant: the first i entries are renewed, in place. Assumes nothing.
+-- `renew` meets its contract. The invariant: the first i entries are renewed, in place.
 use mathlib.Core.Path.{_≡_, _∙_}
 use Prim.Native.Nat.{_-_, _≤_}
 use native.Mathlib.Omega.{arith}

@@ -1,4 +1,4 @@
--- `renew_at` meets its contract. Assumes nothing.
+-- `renew_at` meets its contract.
 use borrow.Author.Needs.{needs}
 use Rattle.mersenne_twister.proofs.table.renew_at.Statement.{statement}
 use Rattle.mersenne_twister.proofs.table.renew_at.Tie as tie

@@ -1,4 +1,4 @@
--- `seed_in` meets its contract. The invariant: the first i words of the seed are stored, and `word` is the next. Assumes nothing.
+-- `seed_in` meets its contract. The invariant: the first i words of the seed are stored, and `word` is the next.
 use mathlib.Core.Path.{_≡_, _∙_, refl}
 use Prim.Native.Nat.{_-_, _≤_}
 use native.Mathlib.Numerals.{add-one}

@@ -1,4 +1,4 @@
--- `twist_in` meets its contract. Assumes nothing.
+-- `twist_in` meets its contract.
 use mathlib.Core.List.{List}
 use mathlib.Core.Path.{ap}
 use Prim.Native.Nat.{ℕ}

@@ -1,4 +1,4 @@
--- `follow_word` meets its contract: the two masks cut out the upper bit and the lower 31 bits. Assumes nothing.
+-- `follow_word` meets its contract: the two masks cut out the upper bit and the lower 31 bits.
 use mathlib.Core.Path.{_≡_, ap, ap₂, _∙_}
 use Prim.Native.Nat.{ℕ, _+_}
 use native.Mathlib.Omega.{arith}

@@ -1,4 +1,4 @@
--- `seed_step` meets its contract: the product is wrapped before the sum is, which the sum does not see. Assumes nothing.
+-- `seed_step` meets its contract: the product is wrapped before the sum is, which the sum does not see.
 use mathlib.Core.Path.{_∙_}
 use native.Mathlib.Nat.{mod-add-mod}
 use borrow.Author.Needs.{needs}

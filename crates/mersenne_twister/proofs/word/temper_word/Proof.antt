@@ -1,4 +1,4 @@
--- `temper_word` meets its contract: the code is the definition, step for step. Assumes nothing.
+-- `temper_word` meets its contract: the code is the definition, step for step.
 use mathlib.Core.Path.{refl}
 use Rattle.mersenne_twister.specs.Sequence.{temper, temper1, temper2, temper3, temper4}
 use Rattle.mersenne_twister.proofs.word.temper_word.Statement.{statement}

@@ -1,4 +1,4 @@
--- `times_a` meets its contract. Assumes nothing.
+-- `times_a` meets its contract.
 use borrow.Author.Tests.{eq-eqb, ne-eqb}
 use Rattle.mersenne_twister.specs.Sequence.{timesA}
 use Rattle.mersenne_twister.proofs.word.times_a.Statement.{statement}

@@ -1,4 +1,4 @@
--- `same` meets its contract. Assumes nothing.
+-- `same` meets its contract.
 use borrow.Author.Needs.{needs}
 use Rattle.parts.proofs.equality.same.Statement.{statement}
 use Rattle.parts.proofs.equality.same.Tie as tie

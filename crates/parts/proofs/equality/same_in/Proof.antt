@@ -1,4 +1,4 @@
--- `same_in` meets its contract: kinds, small words, positions, and of the twister the tables. Assumes nothing.
+-- `same_in` meets its contract: kinds, small words, positions, and of the twister the tables.
 use mathlib.Core.Bool.{true, false}
 use mathlib.Core.Path.{_≡_, _∙_, sym, ap}
 use borrow.Author.Tests.{not-true, not-false}

@@ -1,4 +1,4 @@
--- `same_small` meets its contract. Assumes nothing.
+-- `same_small` meets its contract.
 use mathlib.Core.Path.{ap}
 use Rattle.parts.specs.Decides.{decides-yes, decides-no}
 use Rattle.parts.specs.declared.read_out.Small.{Small}

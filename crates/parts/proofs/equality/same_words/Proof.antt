@@ -1,4 +1,4 @@
--- `same_words` meets its contract. The loop's invariant: the lists agree at each place passed. Assumes nothing.
+-- `same_words` meets its contract. The loop's invariant: the lists agree at each place passed.
 use borrow.Author.Needs.{needs}
 use mathlib.Core.List.{List}
 use mathlib.Core.Path.{_≡_, refl, _∙_, sym, ap}

@@ -1,4 +1,4 @@
--- `mti` meets its contract. Assumes nothing.
+-- `mti` meets its contract.
 use borrow.Author.Needs.{needs}
 use Rattle.parts.proofs.position.mti.Statement.{statement}
 use Rattle.parts.proofs.position.mti.Tie as tie

@@ -1,4 +1,4 @@
--- `set_mti` meets its contract. Assumes nothing.
+-- `set_mti` meets its contract.
 use borrow.Author.Needs.{needs}
 use Rattle.parts.proofs.position.set_mti.Statement.{statement}
 use Rattle.parts.proofs.position.set_mti.Tie as tie

@@ -1,4 +1,4 @@
--- `set_mti_in` meets its contract, kind by kind. Assumes nothing.
+-- `set_mti_in` meets its contract, kind by kind.
 use borrow.Author.Needs.{needs}
 use Rattle.parts.proofs.position.set_mti_in.Statement.{statement}
 use Rattle.parts.proofs.position.set_mti_in.Tie as tie

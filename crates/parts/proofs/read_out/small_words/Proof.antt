@@ -1,4 +1,4 @@
--- `small_words` meets its contract, kind by kind. Assumes nothing.
+-- `small_words` meets its contract, kind by kind.
 use borrow.Author.Needs.{needs}
 use Rattle.parts.proofs.read_out.small_words.Statement.{statement}
 use Rattle.parts.proofs.read_out.small_words.Tie as tie

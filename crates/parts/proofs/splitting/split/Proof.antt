@@ -1,4 +1,4 @@
--- `split` meets its contract. Assumes nothing.
+-- `split` meets its contract.
 use mathlib.Core.Path.{_∙_, ap}
 use borrow.Author.Needs.{needs}
 use Rattle.parts.specs.Splitting.{engineSplit}

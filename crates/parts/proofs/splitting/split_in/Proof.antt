@@ -1,4 +1,4 @@
--- `split_in` meets its contract, kind by kind. Assumes nothing.
+-- `split_in` meets its contract, kind by kind.
 use mathlib.Core.Path.{_∙_}
 use native.Mathlib.Omega.{arith}
 use borrow.Author.Needs.{needs}

@@ -1,4 +1,4 @@
--- `increment` meets its contract: doubled and 1 added, modulo 2 ^ 128, is the stream shifted. Assumes nothing.
+-- `increment` meets its contract: doubled and 1 added, modulo 2 ^ 128, is the stream shifted.
 use mathlib.Core.Path.{_∙_, ap}
 use native.Mathlib.Nat.{mod-add-mod}
 use borrow.Author.Needs.{needs}

@@ -1,4 +1,4 @@
--- `next_state` meets its contract. Assumes nothing.
+-- `next_state` meets its contract.
 use mathlib.Core.Path.{_∙_}
 use native.Mathlib.Nat.{mod-add-mod}
 use borrow.Author.Needs.{needs}

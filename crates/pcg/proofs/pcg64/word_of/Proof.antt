@@ -1,4 +1,4 @@
--- `word_of` meets its contract. Assumes nothing.
+-- `word_of` meets its contract.
 use mathlib.Core.Path.{_∙_, sym}
 use native.Mathlib.Omega.{arith}
 use borrow.Author.Needs.{needs}

@@ -1,4 +1,4 @@
--- `init_by_array` is safe and ends. Assumes nothing.
+-- `init_by_array` is safe and ends.
 use borrow.Author.Needs.{needs}
 use Prim.Native.Nat.{_≤_, _-_}
 use Rattle.published.proofs.init_by_array.init_by_array.Statement.{statement}

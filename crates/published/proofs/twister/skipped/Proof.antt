@@ -1,4 +1,4 @@
--- `skipped` is safe and ends. Assumes nothing.
+-- `skipped` is safe and ends.
 use borrow.Author.Needs.{needs}
 use Prim.Native.Nat.{_≤_, _-_}
 use Rattle.published.proofs.twister.skipped.Statement.{statement}

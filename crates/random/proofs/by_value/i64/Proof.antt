@@ -1,4 +1,4 @@
--- `i64` meets its contract. Assumes nothing.
+-- `i64` meets its contract.
 use mir.Syntax.{w64}
 use borrow.Author.Needs.{needs}
 use Rattle.signed.specs.Callers.{result-read}

@@ -1,6 +1,5 @@
--- `pseudo` meets its contract: the words drawn over the lent table are the generator's. Assumes nothing.
+-- `pseudo` meets its contract: the words drawn over the lent table are the generator's.
 use borrow.Author.Needs.{needs}
-use Rattle.random.specs.WordsLaws.{pseudo-is}
 use Rattle.random.proofs.by_value.pseudo.Statement.{statement}
 use Rattle.random.proofs.by_value.pseudo.Tie as tie
 
@@ -16,7 +15,7 @@ with-table-requires c κs = search needs
 returns : tie.Need-returns
 returns c =
     let drawn = rw (c .before .before .before .before .before .engine-of .ensures) at (c .before .before .before .pseudo-in .ensures) in
-    rw (c .with-table .ensures) (pseudo-is _ (c .before .before .before .pseudo-in .result) _ drawn)
+    rw (c .with-table .ensures) drawn
 
 pub pseudo-spec : {M : Type 1} → statement M
 pseudo-spec =

@@ -1,6 +1,5 @@
--- `rand` meets its contract: a word drawn over the lent table is the generator's. Assumes nothing.
+-- `rand` meets its contract: a word drawn over the lent table is the generator's.
 use borrow.Author.Needs.{needs}
-use Rattle.random.specs.WordsLaws.{rand-is}
 use Rattle.random.proofs.by_value.rand.Statement.{statement}
 use Rattle.random.proofs.by_value.rand.Tie as tie
 
@@ -16,7 +15,7 @@ with-table-requires c κs = search needs
 returns : tie.Need-returns
 returns c =
     let drawn = rw (c .before .before .before .before .before .engine-of .ensures) at (c .before .before .before .next-u32 .ensures) in
-    rw (c .with-table .ensures) (rand-is _ (c .before .before .before .next-u32 .result) _ drawn)
+    rw (c .with-table .ensures) drawn
 
 pub rand-spec : {M : Type 1} → statement M
 rand-spec = tie.close (tie.spec engine-of-requires next-u32-requires with-table-requires returns)

@@ -1,6 +1,5 @@
--- `u64` meets its contract: a word drawn over the lent table is the generator's. Assumes nothing.
+-- `u64` meets its contract: a word drawn over the lent table is the generator's.
 use borrow.Author.Needs.{needs}
-use Rattle.random.specs.WordsLaws.{u64-is}
 use Rattle.random.proofs.by_value.u64.Statement.{statement}
 use Rattle.random.proofs.by_value.u64.Tie as tie
 
@@ -16,7 +15,7 @@ with-table-requires c κs = search needs
 returns : tie.Need-returns
 returns c =
     let drawn = rw (c .before .before .before .before .before .engine-of .ensures) at (c .before .before .before .next-u64 .ensures) in
-    rw (c .with-table .ensures) (u64-is _ (c .before .before .before .next-u64 .result) _ drawn)
+    rw (c .with-table .ensures) drawn
 
 pub u64-spec : {M : Type 1} → statement M
 u64-spec = tie.close (tie.spec engine-of-requires next-u64-requires with-table-requires returns)

@@ -1,7 +1,7 @@
--- `next_own` meets its contract. Assumes nothing.
-use mathlib.Core.Path.{_∙_, sym}
+-- `next_own` meets its contract.
+use mathlib.Core.Path.{_∙_, sym, ap}
 use borrow.Author.Needs.{needs}
-use Rattle.random.specs.GeneratorLaws.{own-wide, own-narrow}
+use Rattle.random.specs.GeneratorLaws.{own-wide, own-narrow, widened}
 use Rattle.random.proofs.engine.next_own.Statement.{statement}
 use Rattle.random.proofs.engine.next_own.Tie as tie
 
@@ -25,7 +25,7 @@ cast-t10 c = search needs
 returns-2 : tie.Need-returns-2
 returns-2 c =
     let test = c .before .before .before .before in
-    c .before .before .next-u32 .ensures ∙ own-narrow _ (λ e. test .if1 .left (test .before .width .ensures ∙ e))
+    ap widened (c .before .before .next-u32 .ensures) ∙ own-narrow _ (λ e. test .if1 .left (test .before .width .ensures ∙ e))
 
 pub next-own-spec : {M : Type 1} → statement M
 next-own-spec =

@@ -1,4 +1,4 @@
--- `next_u32` meets its contract: the word of the generator made ready. Assumes nothing.
+-- `next_u32` meets its contract: the word of the generator made ready.
 use mathlib.Core.Path.{_∙_, ap}
 use Rattle.random.specs.Ready.{drawnReady}
 use Rattle.random.specs.ReadyLaws.{made-ready}

@@ -1,9 +1,9 @@
--- `next_u64` meets its contract, kind by kind. Assumes nothing.
+-- `next_u64` meets its contract, kind by kind.
 use mathlib.Core.Path.{ap}
 use borrow.Author.Needs.{needs}
 use Rattle.mersenne_twister.specs.declared.Drawn64.{Drawn64}
 use Rattle.mersenne_twister.specs.Table as twister
-use Rattle.random.specs.Generator.{gen, drawn64, word64Of, advance, step}
+use Rattle.random.specs.Generator.{gen, u64Of, word64Of, later, step}
 use Rattle.random.specs.declared.backend.Backend.the-variants.{MersenneTwister}
 use Rattle.random.proofs.engine.next_u64.Statement.{statement}
 use Rattle.random.proofs.engine.next_u64.Tie as tie
@@ -45,23 +45,23 @@ answer64-requires-4 : tie.Need-answer64-requires-4
 answer64-requires-4 c κs = search needs
 
 returns : tie.Need-returns
-unfolding drawn64 word64Of advance step
+unfolding u64Of word64Of later step
 returns c =
     rw (c .before .before .before .before .backend .given .1, c .answer64 .ensures, c .before .before .next-u64 .ensures)
 
 returns-2 : tie.Need-returns-2
-unfolding drawn64 word64Of advance step twister.drawn64
+unfolding u64Of word64Of later step twister.drawn64
 returns-2 c =
     let is = c .before .before .before .enum-told .given .1 in
     rw (is, c .answer642 .ensures) (ap (λ (d : Drawn64). record { word = d .word; next = gen MersenneTwister (d .next) }) (c .before .next-u64-in .ensures))
 
 returns-3 : tie.Need-returns-3
-unfolding drawn64 word64Of advance step
+unfolding u64Of word64Of later step
 returns-3 c =
     rw (c .before .before .before .before .backend2 .given .1, c .answer643 .ensures, c .before .before .next-u642 .ensures)
 
 returns-4 : tie.Need-returns-4
-unfolding drawn64 word64Of advance step
+unfolding u64Of word64Of later step
 returns-4 c =
     rw (c .before .before .before .before .backend3 .given .1, c .answer644 .ensures, c .before .before .next-u643 .ensures)
 

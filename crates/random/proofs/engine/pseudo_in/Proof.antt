@@ -1,16 +1,16 @@
--- `pseudo_in` meets its contract. The loop's invariant: it has XORed n words. Assumes nothing.
+-- `pseudo_in` meets its contract. The loop's invariant: it has XORed n words.
 use borrow.Author.Needs.{needs}
 use native.Mathlib.Omega.{arith}
 use mathlib.Core.Path.{_≡_}
 use Prim.Native.Nat.{_≤_, _-_}
-use Rattle.random.specs.Generator.{drawnXor}
-use Rattle.random.specs.Lent.{lent, given}
+use Rattle.random.specs.Generator.{pseudoOf}
+use Rattle.random.specs.Lent.{joinedWith, joinedWord}
 use Rattle.random.specs.WordsLaws.{Xored, xored-none, xored-more}
 use Rattle.random.proofs.engine.pseudo_in.Statement.{statement}
 use Rattle.random.proofs.engine.pseudo_in.Tie as tie
 
 abbrev Inv-loop : tie.InvT-loop
-Inv-loop mt₀ next₀ word₀ n₀ mt next word n = (n ≤ 32) × Xored (lent next₀ mt₀) n word (lent next mt)
+Inv-loop mt₀ next₀ word₀ n₀ mt next word n = (n ≤ 32) × Xored (joinedWith next₀ mt₀) n word (joinedWith next mt)
 
 abbrev μ-loop : tie.MeasureT-loop
 μ-loop mt₀ next₀ word₀ n₀ mt next word n = 32 - n
@@ -31,10 +31,10 @@ loop-again : tie.Need-loop-again Inv-loop μ-loop
 loop-again c =
     let loop = c .before .before .before .before .before .loop in
     let drawn = c .before .before .next-u32 in
-    (omega arith, xored-more _ (loop .n) (loop .word) (lent (loop .next) (loop .mt)) (given (drawn .result) (drawn .last .1 .0)) (loop .inv .1) (drawn .ensures))
+    (omega arith, xored-more _ (loop .n) (loop .word) (joinedWith (loop .next) (loop .mt)) (joinedWord (drawn .result) (drawn .last .1 .0)) (loop .inv .1) (drawn .ensures))
 
 returns : tie.Need-returns Inv-loop μ-loop
-unfolding drawnXor
+unfolding pseudoOf
 returns c =
     let loop = c .before .loop in
     let end : loop .n ≡ 32 = omega arith in

@@ -1,4 +1,4 @@
--- `made_ready` meets its contract: below position 624 nothing is done, and past it the twister alone is renewed. Assumes nothing.
+-- `made_ready` meets its contract: below position 624 nothing is done, and past it the twister alone is renewed.
 use mathlib.Core.Path.{sym}
 use Rattle.random.specs.Ready.{madeReady}
 use Rattle.random.specs.ReadyLaws.{made-below, twister-made}

@@ -1,5 +1,5 @@
--- `next_ready` meets its contract, kind by kind. Assumes nothing.
-use Rattle.random.specs.Generator.{drawn32, wordOf, step}
+-- `next_ready` meets its contract, kind by kind.
+use Rattle.random.specs.Generator.{randOf, wordOf, step}
 use Rattle.random.specs.Ready.{drawnReady}
 use Rattle.random.specs.ReadyLaws.{twister-ready, twister-unready}
 use borrow.Author.Needs.{needs}
@@ -62,18 +62,18 @@ answer-requires-5 : tie.Need-answer-requires-5
 answer-requires-5 c κs = search needs
 
 returns-2 : tie.Need-returns-2
-unfolding drawnReady drawn32 wordOf step
+unfolding drawnReady randOf wordOf step
 returns-2 c = rw (c .before .before .before .before .backend .given .1, c .answer .ensures, c .before .before .next-u32 .ensures)
 
 returns-3 : tie.Need-returns-3
 returns-3 c = rw (c .before .before .enum-told .given .1, c .answer3 .ensures) (twister-unready _ _ (c .before .if1 .left))
 
 returns-4 : tie.Need-returns-4
-unfolding drawnReady drawn32 wordOf step
+unfolding drawnReady randOf wordOf step
 returns-4 c = rw (c .before .before .before .before .backend2 .given .1, c .answer4 .ensures, c .before .before .next-u322 .ensures)
 
 returns-5 : tie.Need-returns-5
-unfolding drawnReady drawn32 wordOf step
+unfolding drawnReady randOf wordOf step
 returns-5 c = rw (c .before .before .before .before .backend3 .given .1, c .answer5 .ensures, c .before .before .next-u323 .ensures)
 
 pub next-ready-spec : {M : Type 1} → statement M

@@ -1,4 +1,4 @@
--- `moved` is safe and ends. Assumes nothing.
+-- `moved` is safe and ends.
 use borrow.Author.Needs.{needs}
 use Prim.Native.Nat.{_≤_, _-_}
 use Rattle.refusals.proofs.generators.moved.Statement.{statement}

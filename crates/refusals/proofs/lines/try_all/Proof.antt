@@ -1,4 +1,4 @@
--- `try_all` is safe and ends. Assumes nothing.
+-- `try_all` is safe and ends.
 use borrow.Author.Needs.{needs}
 use Prim.Native.Nat.{_≤_, _-_}
 use Rattle.refusals.proofs.lines.try_all.Statement.{statement}

@@ -1,4 +1,4 @@
--- `draws` is safe and ends: the bound falls, and the list keeps its length. Assumes nothing.
+-- `draws` is safe and ends: the bound falls, and the list keeps its length.
 use borrow.Author.Needs.{needs}
 use lib.ListN.{length}
 use mathlib.Core.Path.{_≡_}

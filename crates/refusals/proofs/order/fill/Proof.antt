@@ -1,4 +1,4 @@
--- `fill` is safe and ends: the list keeps its length, and the place stays within it. Assumes nothing.
+-- `fill` is safe and ends: the list keeps its length, and the place stays within it.
 use borrow.Author.Needs.{needs}
 use lib.ListN.{length, length-set}
 use native.Mathlib.Omega.{arith}

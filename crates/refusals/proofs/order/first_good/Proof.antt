@@ -1,4 +1,4 @@
--- `first_good` is safe and ends: the budget falls. Assumes nothing.
+-- `first_good` is safe and ends: the budget falls.
 use borrow.Author.Needs.{needs}
 use Prim.Native.Nat.{_≤_, _-_}
 use Rattle.refusals.proofs.order.first_good.Statement.{statement}

@@ -1,4 +1,4 @@
--- `try_everywhere` is safe and ends: the lists keep their lengths. Assumes nothing.
+-- `try_everywhere` is safe and ends: the lists keep their lengths.
 use borrow.Author.Needs.{needs}
 use lib.ListN.{length}
 use mathlib.Core.Path.{_≡_}

@@ -1,4 +1,4 @@
--- `compared_row` is safe and ends: the place stays within the answer. Assumes nothing.
+-- `compared_row` is safe and ends: the place stays within the answer.
 use borrow.Author.Needs.{needs}
 use Prim.Native.Nat.{_≤_, _-_}
 use Rattle.replay.proofs.compare.compared_row.Statement.{statement}

@@ -1,4 +1,4 @@
--- `rows` is safe and ends. Assumes nothing.
+-- `rows` is safe and ends.
 use borrow.Author.Needs.{needs}
 use Prim.Native.Nat.{_≤_, _-_}
 use Rattle.replay.proofs.compare.rows.Statement.{statement}

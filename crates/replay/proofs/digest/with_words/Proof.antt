@@ -1,4 +1,4 @@
--- `with_words` is safe and ends: the place stays within the list. Assumes nothing.
+-- `with_words` is safe and ends: the place stays within the list.
 use borrow.Author.Needs.{needs}
 use lib.ListN.{length}
 use Prim.Native.Nat.{_≤_, _-_}

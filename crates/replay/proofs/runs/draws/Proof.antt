@@ -1,4 +1,4 @@
--- `draws` is safe and ends. Assumes nothing.
+-- `draws` is safe and ends.
 use borrow.Author.Needs.{needs}
 use Prim.Native.Nat.{_≤_, _-_}
 use Rattle.replay.proofs.runs.draws.Statement.{statement}

@@ -1,4 +1,4 @@
--- `words` is safe and ends. Assumes nothing.
+-- `words` is safe and ends.
 use borrow.Author.Needs.{needs}
 use Prim.Native.Nat.{_≤_, _-_}
 use Rattle.replay.proofs.runs.words.Statement.{statement}

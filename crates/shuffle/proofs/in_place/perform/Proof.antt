@@ -1,11 +1,11 @@
--- `perform` meets its contract: the invariants are `Performing` with `Blocks`, and within a block `Swapping`. Assumes nothing.
+-- `perform` meets its contract: the invariants are `Performing` with `Blocks`, and within a block `Swapping`.
 use borrow.Author.Needs.{needs}
 use mathlib.Core.Path.{_≡_, refl, sym, _∙_}
 use mathlib.Core.Logic.{⊎-elim}
 use Prim.Native.Nat.{_+_, _-_, _≤_}
 use native.Mathlib.Omega.{arith}
 use Rattle.random.specs.Generator.{wordsOf}
-use Rattle.random.specs.Lent.{lent}
+use Rattle.random.specs.Lent.{joinedWith}
 use Rattle.shuffle.specs.Rehearsing.{rehearsing-within}
 use Rattle.shuffle.specs.Performing.{Performing, performing-start, performing-length, Swapping, swapping-start, swapping-good, swapping-bad, performed-all, performed-short}
 use Rattle.shuffle.specs.FromGenerator.{Blocks, blocks-start, blocks-on, block-words}
@@ -19,7 +19,7 @@ abbrev μ-loop2 : tie.MeasureT-loop2
 μ-loop2 mt list₀ last budget next block used at₀ n i₀ list at i = n - i
 
 abbrev Inv-loop : tie.InvT-loop
-Inv-loop mt₀ list₀ last budget next₀ block₀ used₀ at₀ mt list next block used at = Performing (wordsOf (lent next₀ mt₀)) last budget used at list₀ list × Blocks (lent next₀ mt₀) used (lent next mt) block
+Inv-loop mt₀ list₀ last budget next₀ block₀ used₀ at₀ mt list next block used at = Performing (wordsOf (joinedWith next₀ mt₀)) last budget used at list₀ list × Blocks (joinedWith next₀ mt₀) used (joinedWith next mt) block
 
 abbrev μ-loop : tie.MeasureT-loop
 μ-loop mt₀ list₀ last budget next₀ block₀ used₀ at₀ mt list next block used at = budget - used

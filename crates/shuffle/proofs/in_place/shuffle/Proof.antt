@@ -1,7 +1,6 @@
--- `shuffle` meets its contract: the answer over the lent table, and the table joined to it. Assumes nothing.
+-- `shuffle` meets its contract: the answer over the lent table, and the table joined to it.
 use mathlib.Core.Path.{_∙_}
 use borrow.Author.Needs.{needs}
-use Rattle.bounded.specs.AnswerLaws.{joined-answers}
 use Rattle.shuffle.proofs.in_place.shuffle.Statement.{statement}
 use Rattle.shuffle.proofs.in_place.shuffle.Tie as tie
 
@@ -21,7 +20,7 @@ returns : tie.Need-returns
 returns c =
     let a = c .before .before .before .before in
     let same = rw (a .before .before .before .engine-of .ensures) at (a .shuffle-in .ensures) in
-    (c .joined .ensures ∙ joined-answers _ _ (a .shuffle-in .result) _ (same .0), same .1)
+    (c .joined .ensures ∙ same .0, same .1)
 
 pub shuffle-spec : {M : Type 1} → statement M
 shuffle-spec =

@@ -1,4 +1,4 @@
--- `shuffle_in` meets its contract: the rehearsal leaves the table as it came, and the swaps are made where all draws are settled. Assumes nothing.
+-- `shuffle_in` meets its contract: the rehearsal leaves the table as it came, and the swaps are made where all draws are settled.
 use native.Mathlib.Omega.{arith}
 use borrow.Author.Needs.{needs}
 use Rattle.shuffle.specs.ShuffleAnswers.{shuffled-long, shuffled-tiny, shuffled-short, shuffled-all}

@@ -1,4 +1,4 @@
--- `next_bound` meets its contract. Assumes nothing.
+-- `next_bound` meets its contract.
 use native.Mathlib.Omega.{arith}
 use borrow.Author.Needs.{needs}
 use Rattle.shuffle.proofs.rehearsal.next_bound.Statement.{statement}

@@ -1,4 +1,4 @@
--- `rehearse` meets its contract: the kinds that don't draw from the table leave it alone, and the twister runs on a copy. Assumes nothing.
+-- `rehearse` meets its contract: the kinds that don't draw from the table leave it alone, and the twister runs on a copy.
 use mathlib.Core.Path.{sym, _∙_}
 use borrow.Author.Needs.{needs}
 use Rattle.shuffle.proofs.rehearsal.rehearse.Statement.{statement}

@@ -1,4 +1,4 @@
--- `room` meets its contract. Assumes nothing.
+-- `room` meets its contract.
 use native.Mathlib.Omega.{arith}
 use borrow.Author.Needs.{needs}
 use Rattle.shuffle.proofs.rehearsal.room.Statement.{statement}

@@ -1,4 +1,4 @@
--- `run` meets its contract: the invariants are `Rehearsing` with `Blocks`, and within a block `Passing`. Assumes nothing.
+-- `run` meets its contract: the invariants are `Rehearsing` with `Blocks`, and within a block `Passing`.
 use borrow.Author.Needs.{needs}
 use mathlib.Core.Path.{_≡_, refl, sym, _∙_, ap}
 use mathlib.Core.List.{List, []}
@@ -6,7 +6,7 @@ use mathlib.Core.Logic.{⊎-elim}
 use Prim.Native.Nat.{ℕ, _+_, _-_, _≤_}
 use native.Mathlib.Omega.{arith}
 use Rattle.random.specs.Generator.{wordsOf}
-use Rattle.random.specs.Lent.{lent}
+use Rattle.random.specs.Lent.{joinedWith}
 use Rattle.bounded.specs.TableKept.{others-keep}
 use Rattle.shuffle.specs.Rehearsal.{rehearsedOf}
 use Rattle.shuffle.specs.Rehearsing.{Rehearsing, rehearsing-start, rehearsing-told, rehearsing-out, rehearsing-zero, rehearsing-within, Passing, passing-start, passing-good, passing-bad}
@@ -22,7 +22,7 @@ abbrev μ-loop2 : tie.MeasureT-loop2
 
 abbrev Inv-loop : tie.InvT-loop
 Inv-loop mt₀ first falls count budget next₀ block₀ used₀ settled₀ r₀ mt next block used settled r =
-    ((vs : List ℕ) × Rehearsing (wordsOf (lent next₀ mt₀)) first falls count budget used settled r vs) × Blocks (lent next₀ mt₀) used (lent next mt) block
+    ((vs : List ℕ) × Rehearsing (wordsOf (joinedWith next₀ mt₀)) first falls count budget used settled r vs) × Blocks (joinedWith next₀ mt₀) used (joinedWith next mt) block
 
 abbrev μ-loop : tie.MeasureT-loop
 μ-loop mt₀ first falls count budget next₀ block₀ used₀ settled₀ r₀ mt next block used settled r = budget - used

@@ -1,4 +1,4 @@
--- `swap` meets its contract: both places are in the list, or one is past its end. Assumes nothing.
+-- `swap` meets its contract: both places are in the list, or one is past its end.
 use mathlib.Core.Path.{sym}
 use borrow.Author.Needs.{needs}
 use Rattle.shuffle.specs.SwapLaws.{swap-inside, swap-first-outside, swap-second-outside}

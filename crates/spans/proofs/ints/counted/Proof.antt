@@ -1,4 +1,4 @@
--- `counted` meets its contract. Assumes nothing.
+-- `counted` meets its contract.
 use borrow.Author.Tests.{eq-eqb, ne-eqb}
 use mir.Syntax.{w32}
 use borrow.Author.Needs.{needs}

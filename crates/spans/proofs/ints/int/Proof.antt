@@ -1,8 +1,7 @@
--- `int` meets its contract: the answer over the lent table, and the table joined to it. Assumes nothing.
+-- `int` meets its contract: the answer over the lent table, and the table joined to it.
 use mathlib.Core.Path.{_∙_}
 use borrow.Author.Needs.{needs}
 use Rattle.signed.specs.Callers.{arg-read}
-use Rattle.spans.specs.IntAnswerLaws.{joined-int-answers}
 use Rattle.spans.proofs.ints.int.Statement.{statement}
 use Rattle.spans.proofs.ints.int.Tie as tie
 
@@ -20,7 +19,7 @@ returns c =
     let a = c .before .before in
     let f = a .before .before .before .fits in
     c .joined-int .ensures
-    ∙ joined-int-answers _ _ (a .int-in .result) _ (rw (a .before .before .engine-of .ensures, arg-read (f .min), arg-read (f .max)) at (a .int-in .ensures))
+    ∙ rw (a .before .before .engine-of .ensures, arg-read (f .min), arg-read (f .max)) at (a .int-in .ensures)
 
 pub int-spec : {M : Type 1} → statement M
 int-spec = tie.close (tie.spec engine-of-requires int-in-requires joined-int-requires returns)

@@ -1,4 +1,4 @@
--- `int_in` meets its contract: a number from 0 up to max - min, counted from min. Assumes nothing.
+-- `int_in` meets its contract: a number from 0 up to max - min, counted from min.
 use borrow.Author.Needs.{needs}
 use Rattle.signed.specs.Callers.{arg-read, test-read, span-read}
 use Rattle.spans.specs.IntAnswerLaws.{counted-refused, counted-answers}

@@ -1,4 +1,4 @@
--- `joined_int` meets its contract. Assumes nothing.
+-- `joined_int` meets its contract.
 use borrow.Author.Needs.{needs}
 use Rattle.spans.proofs.ints.joined_int.Statement.{statement}
 use Rattle.spans.proofs.ints.joined_int.Tie as tie

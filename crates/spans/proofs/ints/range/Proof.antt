@@ -1,4 +1,4 @@
--- `range` meets its contract: it is `int`. Assumes nothing.
+-- `range` meets its contract: it is `int`.
 use borrow.Author.Needs.{needs}
 use Rattle.signed.specs.Callers.{arg-read}
 use Rattle.spans.proofs.ints.range.Statement.{statement}

@@ -1,4 +1,4 @@
--- `range_in` meets its contract: it is `int_in`. Assumes nothing.
+-- `range_in` meets its contract: it is `int_in`.
 use borrow.Author.Needs.{needs}
 use Rattle.signed.specs.Callers.{arg-read}
 use Rattle.spans.proofs.ints.range_in.Statement.{statement}

@@ -1,4 +1,4 @@
--- `raw_in` meets its contract. Assumes nothing.
+-- `raw_in` meets its contract.
 use native.Mathlib.Omega.{arith}
 use borrow.Author.Needs.{needs}
 use Rattle.bounded.specs.AnswerLaws.{refusing-answers}

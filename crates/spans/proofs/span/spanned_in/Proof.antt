@@ -1,9 +1,9 @@
--- `spanned_in` meets its contract. Assumes nothing.
+-- `spanned_in` meets its contract.
 use mathlib.Core.Path.{sym, _∙_, ap}
 use native.Mathlib.Omega.{arith}
 use borrow.Author.Needs.{needs}
-use Rattle.random.specs.GeneratorLaws.{advance-none}
-use Rattle.bounded.specs.Answers.{answeredIn}
+use Rattle.random.specs.GeneratorLaws.{later-none}
+use Rattle.bounded.specs.Answers.{answered}
 use Rattle.bounded.specs.AnswerLaws.{accepting-answers}
 use Rattle.spans.specs.SpanLaws.{span-none, span-whole, span-part}
 use Rattle.spans.proofs.span.spanned_in.Statement.{statement}
@@ -14,7 +14,7 @@ accept-in-requires c κs = search needs
 
 returns : tie.Need-returns
 returns c = (
-  accepting-answers _ _ _ (c .accept-in .ensures) (span-none _ _ _ (c .before .if1 .taken)) (sym (advance-none _)),
+  accepting-answers _ _ _ (c .accept-in .ensures) (span-none _ _ _ (c .before .if1 .taken)) (sym (later-none _)),
   λ z. rw (c .accept-in .ensures) (omega arith),
 )
 
@@ -24,7 +24,7 @@ raw-in-requires c κs = search needs
 returns-2 : tie.Need-returns-2
 returns-2 c =
     let whole = c .before .before .if2 .taken in
-    (c .raw-in .ensures ∙ ap (answeredIn _) (sym (span-whole _ _ _ whole)), λ z. omega (arith, c .raw-in .ok))
+    (c .raw-in .ensures ∙ ap (answered _) (sym (span-whole _ _ _ whole)), λ z. omega (arith, c .raw-in .ok))
 
 add-bounded-in : tie.Need-add-bounded-in
 add-bounded-in c = search needs
@@ -35,7 +35,7 @@ bounded-in-requires c κs = search needs
 returns-3 : tie.Need-returns-3
 returns-3 c =
     let d = c .before .before in
-    (c .bounded-in .ensures .0 ∙ ap (answeredIn _) (sym (span-part _ _ _ (d .before .if1 .left) (d .if2 .left))), λ z. omega (arith, c .bounded-in .ensures .1 z))
+    (c .bounded-in .ensures .0 ∙ ap (answered _) (sym (span-part _ _ _ (d .before .if1 .left) (d .if2 .left))), λ z. omega (arith, c .bounded-in .ensures .1 z))
 
 pub spanned-in-spec : {M : Type 1} → statement M
 spanned-in-spec =

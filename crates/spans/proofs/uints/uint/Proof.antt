@@ -1,7 +1,6 @@
--- `uint` meets its contract: the answer over the lent table, and the table joined to it. Assumes nothing.
+-- `uint` meets its contract: the answer over the lent table, and the table joined to it.
 use mathlib.Core.Path.{_∙_}
 use borrow.Author.Needs.{needs}
-use Rattle.bounded.specs.AnswerLaws.{joined-answers}
 use Rattle.spans.proofs.uints.uint.Statement.{statement}
 use Rattle.spans.proofs.uints.uint.Tie as tie
 
@@ -17,7 +16,7 @@ joined-requires c κs = search needs
 returns : tie.Need-returns
 returns c =
     let a = c .before .before in
-    c .joined .ensures ∙ joined-answers _ _ (a .uint-in .result) _ (rw (a .before .before .engine-of .ensures) at (a .uint-in .ensures))
+    c .joined .ensures ∙ rw (a .before .before .engine-of .ensures) at (a .uint-in .ensures)
 
 pub uint-spec : {M : Type 1} → statement M
 uint-spec = tie.close (tie.spec engine-of-requires uint-in-requires joined-requires returns)

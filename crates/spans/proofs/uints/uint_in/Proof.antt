@@ -1,4 +1,4 @@
--- `uint_in` meets its contract: a number from 0 up to max - min, with min added. Assumes nothing.
+-- `uint_in` meets its contract: a number from 0 up to max - min, with min added.
 use native.Mathlib.Omega.{arith}
 use borrow.Author.Needs.{needs}
 use Rattle.bounded.specs.AnswerLaws.{refusing-answers, raised-answers}

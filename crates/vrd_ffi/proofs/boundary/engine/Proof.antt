@@ -1,4 +1,4 @@
--- `engine` meets its contract, kind by kind. Assumes nothing.
+-- `engine` meets its contract, kind by kind.
 use borrow.Author.Tests.{eq-eqb, ne-eqb}
 use borrow.Author.Needs.{needs}
 use Rattle.vrd_ffi.specs.Boundary.{backendOf}

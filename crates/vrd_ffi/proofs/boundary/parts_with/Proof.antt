@@ -1,4 +1,4 @@
--- `parts_with` meets its contract, kind by kind. Assumes nothing.
+-- `parts_with` meets its contract, kind by kind.
 use borrow.Author.Needs.{needs}
 use Rattle.vrd_ffi.specs.Boundary.{partsWith}
 use Rattle.vrd_ffi.proofs.boundary.parts_with.Statement.{statement}

@@ -1,4 +1,4 @@
--- `integer_of` meets its contract. Assumes nothing.
+-- `integer_of` meets its contract.
 use borrow.Author.Needs.{needs}
 use Rattle.vrd_ffi.proofs.draw_calls.integer_of.Statement.{statement}
 use Rattle.vrd_ffi.proofs.draw_calls.integer_of.Tie as tie

@@ -1,4 +1,4 @@
--- `number_of` meets its contract. Assumes nothing.
+-- `number_of` meets its contract.
 use borrow.Author.Needs.{needs}
 use Rattle.vrd_ffi.proofs.draw_calls.number_of.Statement.{statement}
 use Rattle.vrd_ffi.proofs.draw_calls.number_of.Tie as tie

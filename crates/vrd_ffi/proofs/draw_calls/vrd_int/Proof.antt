@@ -1,4 +1,4 @@
--- `vrd_int` meets its contract. Assumes nothing.
+-- `vrd_int` meets its contract.
 use borrow.Author.Needs.{needs}
 use Rattle.signed.specs.Callers.{arg-read}
 use Rattle.vrd_ffi.specs.AnswersLaws.{unknown-kind}

@@ -1,4 +1,4 @@
--- `vrd_random_range` meets its contract. Assumes nothing.
+-- `vrd_random_range` meets its contract.
 use borrow.Author.Needs.{needs}
 use Rattle.vrd_ffi.specs.AnswersLaws.{unknown-kind}
 use Rattle.vrd_ffi.specs.DrawCallsLaws.{number-drawn}

@@ -1,4 +1,4 @@
--- `vrd_float` meets its contract. Assumes nothing.
+-- `vrd_float` meets its contract.
 use borrow.Author.Needs.{needs}
 use Rattle.vrd_ffi.specs.AnswersLaws.{unknown-kind}
 use Rattle.vrd_ffi.specs.FloatCallsLaws.{float-drawn}

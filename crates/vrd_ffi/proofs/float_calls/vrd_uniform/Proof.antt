@@ -1,4 +1,4 @@
--- `vrd_uniform` meets its contract: a number or a refusal. Assumes nothing.
+-- `vrd_uniform` meets its contract: a number or a refusal.
 use borrow.Author.Needs.{needs}
 use Rattle.vrd_ffi.specs.AnswersLaws.{unknown-kind}
 use Rattle.vrd_ffi.specs.FloatCallsLaws.{uniform-drawn}

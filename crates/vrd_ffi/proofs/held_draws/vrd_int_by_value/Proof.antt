@@ -1,4 +1,4 @@
--- `vrd_int_by_value` meets its contract. Assumes nothing.
+-- `vrd_int_by_value` meets its contract.
 use mathlib.Core.Path.{_∙_}
 use borrow.Author.Needs.{needs}
 use Rattle.signed.specs.Callers.{arg-read}

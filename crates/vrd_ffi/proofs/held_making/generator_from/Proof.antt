@@ -1,4 +1,4 @@
--- `generator_from` meets its contract. Assumes nothing.
+-- `generator_from` meets its contract.
 use borrow.Author.Needs.{needs}
 use Rattle.vrd_ffi.proofs.held_making.generator_from.Statement.{statement}
 use Rattle.vrd_ffi.proofs.held_making.generator_from.Tie as tie

@@ -1,4 +1,4 @@
--- `vrd_pcg64_with_stream_by_value` meets its contract. Assumes nothing.
+-- `vrd_pcg64_with_stream_by_value` meets its contract.
 use borrow.Author.Needs.{needs}
 use Rattle.vrd_ffi.proofs.held_making.vrd_pcg64_with_stream_by_value.Statement.{statement}
 use Rattle.vrd_ffi.proofs.held_making.vrd_pcg64_with_stream_by_value.Tie as tie

@@ -1,4 +1,4 @@
--- `vrd_seed_by_value` meets its contract. Assumes nothing.
+-- `vrd_seed_by_value` meets its contract.
 use mathlib.Core.Path.{_∙_}
 use borrow.Author.Needs.{needs}
 use Rattle.vrd_ffi.proofs.held_state.vrd_seed_by_value.Statement.{statement}

@@ -1,4 +1,4 @@
--- `vrd_set_mti_by_value` meets its contract. Assumes nothing.
+-- `vrd_set_mti_by_value` meets its contract.
 use mathlib.Core.Path.{_∙_, ap}
 use borrow.Author.Needs.{needs}
 use Rattle.vrd_ffi.specs.HeldState.{beside}

@@ -1,4 +1,4 @@
--- `vrd_split_by_value` meets its contract. Assumes nothing.
+-- `vrd_split_by_value` meets its contract.
 use borrow.Author.Needs.{needs}
 use Rattle.vrd_ffi.specs.HeldStateLaws.{held-split, held-unsplit}
 use Rattle.vrd_ffi.proofs.held_state.vrd_split_by_value.Statement.{statement}

@@ -1,4 +1,4 @@
--- `settle_in_place` meets its contract. Assumes nothing.
+-- `settle_in_place` meets its contract.
 use borrow.Author.Needs.{needs}
 use Rattle.vrd_ffi.specs.InPlaceLaws.{written-back}
 use Rattle.vrd_ffi.proofs.in_place.settle_in_place.Statement.{statement}

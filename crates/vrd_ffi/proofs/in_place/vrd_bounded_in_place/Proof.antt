@@ -1,4 +1,4 @@
--- `vrd_bounded_in_place` meets its contract: the first word where it is ready and good, and otherwise the draw by value. Assumes nothing.
+-- `vrd_bounded_in_place` meets its contract: the first word where it is ready and good, and otherwise the draw by value.
 use mathlib.Core.Path.{sym, _∙_}
 use native.Mathlib.Omega.{arith}
 use borrow.Author.Needs.{needs}

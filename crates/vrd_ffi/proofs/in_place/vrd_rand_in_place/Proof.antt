@@ -1,4 +1,4 @@
--- `vrd_rand_in_place` meets its contract. Assumes nothing.
+-- `vrd_rand_in_place` meets its contract.
 use borrow.Author.Needs.{needs}
 use Rattle.random.specs.Generator.{drawn32}
 use Rattle.vrd_ffi.specs.AnswersLaws.{unknown-kind}

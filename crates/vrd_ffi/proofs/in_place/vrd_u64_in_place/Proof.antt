@@ -1,4 +1,4 @@
--- `vrd_u64_in_place` meets its contract. Assumes nothing.
+-- `vrd_u64_in_place` meets its contract.
 use borrow.Author.Needs.{needs}
 use Rattle.random.specs.Generator.{drawn64}
 use Rattle.vrd_ffi.specs.AnswersLaws.{unknown-kind}

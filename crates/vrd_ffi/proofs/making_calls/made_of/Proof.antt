@@ -1,4 +1,4 @@
--- `made_of` meets its contract. Assumes nothing.
+-- `made_of` meets its contract.
 use borrow.Author.Needs.{needs}
 use Rattle.vrd_ffi.proofs.making_calls.made_of.Statement.{statement}
 use Rattle.vrd_ffi.proofs.making_calls.made_of.Tie as tie

@@ -1,4 +1,4 @@
--- `parts_of` meets its contract. Assumes nothing.
+-- `parts_of` meets its contract.
 use borrow.Author.Needs.{needs}
 use Rattle.vrd_ffi.proofs.making_calls.parts_of.Statement.{statement}
 use Rattle.vrd_ffi.proofs.making_calls.parts_of.Tie as tie

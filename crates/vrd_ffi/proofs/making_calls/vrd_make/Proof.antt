@@ -1,4 +1,4 @@
--- `vrd_make` meets its contract: refused, of a small kind, and of the twister. Assumes nothing.
+-- `vrd_make` meets its contract: refused, of a small kind, and of the twister.
 use mathlib.Core.Path.{_∙_, ap}
 use borrow.Author.Needs.{needs}
 use Rattle.mersenne_twister.specs.declared.MersenneTwister.{MersenneTwister}

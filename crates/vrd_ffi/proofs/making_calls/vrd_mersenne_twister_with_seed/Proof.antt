@@ -1,4 +1,4 @@
--- `vrd_mersenne_twister_with_seed` meets its contract. Assumes nothing.
+-- `vrd_mersenne_twister_with_seed` meets its contract.
 use mathlib.Core.Path.{ap}
 use borrow.Author.Needs.{needs}
 use Rattle.mersenne_twister.specs.declared.MersenneTwister as twister

@@ -1,4 +1,4 @@
--- `vrd_pcg32_with_seed` meets its contract. Assumes nothing.
+-- `vrd_pcg32_with_seed` meets its contract.
 use borrow.Author.Needs.{needs}
 use Rattle.vrd_ffi.proofs.making_calls.vrd_pcg32_with_seed.Statement.{statement}
 use Rattle.vrd_ffi.proofs.making_calls.vrd_pcg32_with_seed.Tie as tie

@@ -1,4 +1,4 @@
--- `move_u32` meets its contract, kind by kind. Assumes nothing.
+-- `move_u32` meets its contract, kind by kind.
 use native.Mathlib.Omega.{arith}
 use borrow.Author.Needs.{needs}
 use Rattle.random.specs.Generator.{drawn32, wordOf, step}

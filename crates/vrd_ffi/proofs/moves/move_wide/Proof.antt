@@ -1,4 +1,4 @@
--- `move_wide` meets its contract, kind by kind. Assumes nothing.
+-- `move_wide` meets its contract, kind by kind.
 use borrow.Author.Needs.{needs}
 use Rattle.random.specs.Generator.{drawn64, word64Of, advance, step}
 use Rattle.vrd_ffi.specs.Boundary.{backendOf, partsWith}

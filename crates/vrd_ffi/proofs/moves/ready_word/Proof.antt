@@ -1,4 +1,4 @@
--- `ready_word` meets its contract, kind by kind. Assumes nothing.
+-- `ready_word` meets its contract, kind by kind.
 use borrow.Author.Tests.{eq-eqb, ne-eqb}
 use borrow.Author.Needs.{needs}
 use Rattle.random.specs.Generator.{wordOf}

@@ -1,4 +1,4 @@
--- `vrd_mti` meets its contract. Assumes nothing.
+-- `vrd_mti` meets its contract.
 use borrow.Author.Needs.{needs}
 use Rattle.vrd_ffi.specs.AnswersLaws.{unknown-kind, known-kind}
 use Rattle.vrd_ffi.proofs.state_calls.vrd_mti.Statement.{statement}

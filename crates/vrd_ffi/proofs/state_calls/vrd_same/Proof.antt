@@ -1,4 +1,4 @@
--- `vrd_same` meets its contract. Assumes nothing.
+-- `vrd_same` meets its contract.
 use borrow.Author.Needs.{needs}
 use Rattle.vrd_ffi.specs.StateCallsLaws.{same-first-unknown, same-second-unknown, same-known}
 use Rattle.vrd_ffi.proofs.state_calls.vrd_same.Statement.{statement}

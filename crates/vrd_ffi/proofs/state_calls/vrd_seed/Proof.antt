@@ -1,4 +1,4 @@
--- `vrd_seed` meets its contract. Assumes nothing.
+-- `vrd_seed` meets its contract.
 use borrow.Author.Needs.{needs}
 use Rattle.vrd_ffi.specs.AnswersLaws.{unknown-kind}
 use Rattle.vrd_ffi.specs.StateCallsLaws.{state-moved}

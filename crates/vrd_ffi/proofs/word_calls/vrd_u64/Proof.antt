@@ -1,4 +1,4 @@
--- `vrd_u64` meets its contract. Assumes nothing.
+-- `vrd_u64` meets its contract.
 use borrow.Author.Needs.{needs}
 use Rattle.vrd_ffi.specs.AnswersLaws.{unknown-kind}
 use Rattle.vrd_ffi.specs.WordCallsLaws.{word-drawn}

@@ -1,4 +1,4 @@
--- `read_number` meets its contract: the invariant is `Reading`. Assumes nothing.
+-- `read_number` meets its contract: the invariant is `Reading`.
 use mathlib.Core.Path.{_∙_}
 use Prim.Native.Nat.{_-_}
 use native.Mathlib.Omega.{arith}

@@ -1,4 +1,4 @@
--- `plan_days` meets its contract: the measure is what is left of the days, and the slots keep their number. Assumes nothing.
+-- `plan_days` meets its contract: the measure is what is left of the days, and the slots keep their number.
 use mathlib.Core.Path.{_≡_, refl}
 use Prim.Native.Nat.{_-_}
 use native.Mathlib.Omega.{arith}

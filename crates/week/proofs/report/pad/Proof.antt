@@ -1,4 +1,4 @@
--- `pad` meets its contract: no more spaces are written than there are. Assumes nothing.
+-- `pad` meets its contract: no more spaces are written than there are.
 use mathlib.Core.Path.{sym}
 use borrow.Author.Needs.{needs}
 use lib.Seq.{length-take-le}

@@ -1,4 +1,4 @@
--- `tell_slots` meets its contract: the measure is what is left of the slots. Assumes nothing.
+-- `tell_slots` meets its contract: the measure is what is left of the slots.
 use Prim.Native.Nat.{_-_, _≤_}
 use native.Mathlib.Omega.{arith}
 use borrow.Author.Needs.{needs}

@@ -1,4 +1,4 @@
--- `byte` meets its contract. Assumes nothing.
+-- `byte` meets its contract.
 use native.Mathlib.Omega.{arith}
 use mathlib.Core.Path.{refl, sym}
 use Prim.Native.Nat.{_+_, _≤_}

@@ -1,4 +1,4 @@
--- `le_u32` meets its contract. Assumes nothing.
+-- `le_u32` meets its contract.
 use native.Mathlib.Omega.{arith}
 use borrow.Author.Needs.{needs}
 use Rattle.wrapping.specs.Bytes.{little}

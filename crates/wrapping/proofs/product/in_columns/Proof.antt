@@ -1,4 +1,4 @@
--- `in_columns` meets its contract: the products of two words' halves leave room for the carries. Assumes nothing.
+-- `in_columns` meets its contract: the products of two words' halves leave room for the carries.
 use native.Mathlib.Omega.{arith}
 use borrow.Author.Needs.{needs}
 use Rattle.wrapping.specs.Columns.{Rooms, rooms}

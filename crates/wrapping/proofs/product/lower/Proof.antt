@@ -1,4 +1,4 @@
--- `lower` meets its contract: the lower word, off the columns. Assumes nothing.
+-- `lower` meets its contract: the lower word, off the columns.
 use borrow.Author.Needs.{needs}
 use Rattle.wrapping.specs.Columns.{lower-is}
 use Rattle.wrapping.proofs.product.lower.Statement.{statement}

@@ -1,4 +1,4 @@
--- `mul_u32` meets its contract. Assumes nothing.
+-- `mul_u32` meets its contract.
 use native.Mathlib.Omega.{arith}
 use borrow.Author.Needs.{needs}
 use Rattle.wrapping.specs.Columns.{halves}

@@ -1,4 +1,4 @@
--- `upper` meets its contract: the upper word, off the columns. Assumes nothing.
+-- `upper` meets its contract: the upper word, off the columns.
 use native.Mathlib.Omega.{arith}
 use borrow.Author.Needs.{needs}
 use Rattle.wrapping.specs.Columns.{Rooms, rooms, upper-is}

@@ -1,4 +1,4 @@
--- `rotate_left_u64` meets its contract, by the laws of rotations at 64 bits. Assumes nothing.
+-- `rotate_left_u64` meets its contract, by the laws of rotations at 64 bits.
 use native.Mathlib.Omega.{arith}
 use Prim.Native.Nat.{_-_, _%_}
 use mathlib.Core.Path.{sym}

@@ -1,4 +1,4 @@
--- `next_u32` meets its contract. Assumes nothing.
+-- `next_u32` meets its contract.
 use borrow.Author.Needs.{needs}
 use Rattle.xoshiro.proofs.Xoshiro256PlusPlus.next_u32.Statement.{statement}
 use Rattle.xoshiro.proofs.Xoshiro256PlusPlus.next_u32.Tie as tie

@@ -1,4 +1,4 @@
--- `step` meets its contract. Assumes nothing.
+-- `step` meets its contract.
 use borrow.Author.Needs.{needs}
 use Rattle.xoshiro.specs.Generator.{stepped}
 use Rattle.xoshiro.proofs.Xoshiro256PlusPlus.step.Statement.{statement}

@@ -1,4 +1,4 @@
--- `word` meets its contract. Assumes nothing.
+-- `word` meets its contract.
 use borrow.Author.Needs.{needs}
 use Rattle.xoshiro.specs.Generator.{result}
 use Rattle.xoshiro.proofs.Xoshiro256PlusPlus.word.Statement.{statement}

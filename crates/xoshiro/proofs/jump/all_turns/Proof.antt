@@ -1,4 +1,4 @@
--- `all_turns` meets its contract. The loop's invariant: after i turns the jump has come as far as `jumping i`. Assumes nothing.
+-- `all_turns` meets its contract. The loop's invariant: after i turns the jump has come as far as `jumping i`.
 use mathlib.Core.Path.{_≡_, refl, _∙_}
 use Prim.Native.Nat.{_≤_, _-_}
 use native.Mathlib.Numerals.{add-one}

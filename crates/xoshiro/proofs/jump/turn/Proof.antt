@@ -1,4 +1,4 @@
--- `turn` meets its contract. Assumes nothing.
+-- `turn` meets its contract.
 use mathlib.Core.Path.{sym, _∙_}
 use borrow.Author.Tests.{eq-eqb, ne-eqb}
 use borrow.Author.Needs.{needs}

@@ -1,4 +1,4 @@
--- `folded` meets its contract. Assumes nothing.
+-- `folded` meets its contract.
 use borrow.Author.Needs.{needs}
 use Rattle.xoshiro.proofs.seed.folded.Statement.{statement}
 use Rattle.xoshiro.proofs.seed.folded.Tie as tie

@@ -1,4 +1,4 @@
--- `nonzero` meets its contract. Assumes nothing.
+-- `nonzero` meets its contract.
 use borrow.Author.Tests.{eq-eqb, ne-eqb}
 use Rattle.xoshiro.proofs.seed.nonzero.Statement.{statement}
 use Rattle.xoshiro.proofs.seed.nonzero.Tie as tie

@@ -1,4 +1,4 @@
--- `primed` meets its contract. Assumes nothing.
+-- `primed` meets its contract.
 use borrow.Author.Needs.{needs}
 use Rattle.xoshiro.specs.Seed.{fourWords}
 use Rattle.xoshiro.proofs.seed.primed.Statement.{statement}

@@ -1,4 +1,4 @@
--- `splitmix64` meets its contract. Assumes nothing.
+-- `splitmix64` meets its contract.
 use mathlib.Core.Path.{_∙_, ap}
 use borrow.Author.Needs.{needs}
 use Rattle.xoshiro.specs.SplitMix64.{mixed}

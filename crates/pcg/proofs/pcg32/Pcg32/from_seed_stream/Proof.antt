@@ -1,4 +1,4 @@
--- `Pcg32::from_seed_stream` meets its contract. Assumes nothing.
+-- `Pcg32::from_seed_stream` meets its contract.
 use borrow.Author.Needs.{needs}
 use Rattle.pcg.specs.Lcg.{seededState}
 use Rattle.pcg.proofs.pcg32.Pcg32.from_seed_stream.Statement.{statement}

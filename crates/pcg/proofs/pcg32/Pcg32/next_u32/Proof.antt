@@ -1,4 +1,4 @@
--- `Pcg32::next_u32` meets its contract. Assumes nothing.
+-- `Pcg32::next_u32` meets its contract.
 use borrow.Author.Needs.{needs}
 use Rattle.pcg.proofs.pcg32.Pcg32.next_u32.Statement.{statement}
 use Rattle.pcg.proofs.pcg32.Pcg32.next_u32.Tie as tie

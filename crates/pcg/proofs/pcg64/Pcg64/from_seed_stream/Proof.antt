@@ -1,4 +1,4 @@
--- `Pcg64::from_seed_stream` meets its contract. Assumes nothing.
+-- `Pcg64::from_seed_stream` meets its contract.
 use borrow.Author.Needs.{needs}
 use Rattle.wrapping.specs.WideLaws.{value-wide}
 use Rattle.pcg.specs.Lcg.{seededState}

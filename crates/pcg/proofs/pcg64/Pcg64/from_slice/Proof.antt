@@ -1,4 +1,4 @@
--- `Pcg64::from_slice` meets its contract: two words of 8 bytes are the number of 16. Assumes nothing.
+-- `Pcg64::from_slice` meets its contract: two words of 8 bytes are the number of 16.
 use mathlib.Core.List.{List}
 use mathlib.Core.Path.{_≡_, _∙_, ap₂}
 use Prim.Native.Nat.{ℕ, _+_, _*_, _/_, _^_}

@@ -1,4 +1,4 @@
--- `Pcg64::next_u64` meets its contract. Assumes nothing.
+-- `Pcg64::next_u64` meets its contract.
 use borrow.Author.Needs.{needs}
 use Rattle.pcg.proofs.pcg64.Pcg64.next_u64.Statement.{statement}
 use Rattle.pcg.proofs.pcg64.Pcg64.next_u64.Tie as tie

@@ -1,4 +1,4 @@
--- `Wide::wrapping_add` meets its contract. Assumes nothing.
+-- `Wide::wrapping_add` meets its contract.
 use mathlib.Core.Path.{_∙_}
 use native.Mathlib.Omega.{arith}
 use native.Mathlib.Nat.{mod-add-mod, add-zero}

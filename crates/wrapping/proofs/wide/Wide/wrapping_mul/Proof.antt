@@ -1,4 +1,4 @@
--- `Wide::wrapping_mul` meets its contract. Assumes nothing.
+-- `Wide::wrapping_mul` meets its contract.
 use mathlib.Core.Path.{_∙_}
 use native.Mathlib.Nat.{add-mod-mod, add-comm}
 use borrow.Author.Needs.{needs}
