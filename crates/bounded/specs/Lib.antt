@@ -7,13 +7,10 @@ pub mod Ranges
 pub mod OneAnswer
 pub mod Budgeted
 pub mod RangeOutcomes
--- For code that draws from a generator: the one loop, and when the twister's table stays as it came.
+-- For code that draws from a generator: the one loop.
 pub mod Trying
-pub mod TableKept
 pub mod AnswerLaws
 pub mod RangeLaws
--- The list limit.
-pub mod Limit
 -- The contracts by name, and that each leaves one answer.
 pub mod Promises
 pub mod PromisesLaws

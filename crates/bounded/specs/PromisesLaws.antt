@@ -1,14 +1,12 @@
 -- Each promise leaves one answer: two that both meet it are equal.
-use mathlib.Core.Bool.{Bool}
 use mathlib.Core.List.{List}
 use mathlib.Core.Path.{_≡_, sym, _∙_}
 use Prim.Native.Nat.{ℕ}
 use Rattle.random.specs.Lent.{joinedWith}
-use Rattle.random.specs.declared.backend.Backend.{Backend}
 use Rattle.random.specs.declared.backend.Random.{Random}
 use Rattle.random.specs.declared.engine.Engine.{Engine}
 use Rattle.bounded.specs.OneAnswer.{answer-apart, one-try}
-use Rattle.bounded.specs.Promises.{AcceptInPromise, BoundedInPromise, BoundedPromise, CharInPromise, CharPromise, DrawInPromise, JoinedPromise, OnTablePromise, RaiseInPromise, RandomRangeInPromise, RandomRangePromise, RefuseInPromise}
+use Rattle.bounded.specs.Promises.{AcceptInPromise, BoundedInPromise, BoundedPromise, CharInPromise, CharPromise, DrawInPromise, JoinedPromise, RaiseInPromise, RandomRangeInPromise, RandomRangePromise, RefuseInPromise}
 use Rattle.bounded.specs.declared.answers.Answer.{Answer}
 use Rattle.bounded.specs.declared.answers.EngineAnswer.{EngineAnswer}
 use Rattle.bounded.specs.declared.draw.Tried.{Tried}
@@ -24,9 +22,6 @@ one-raise-in n a p q = p ∙ sym q
 
 pub one-joined : (a : EngineAnswer) (mt : List ℕ) {r r′ : Answer} → JoinedPromise a mt r → JoinedPromise a mt r′ → r ≡ r′
 one-joined a mt p q = p ∙ sym q
-
-pub one-on-table : (backend : Backend) {a b : Bool} → OnTablePromise backend a → OnTablePromise backend b → a ≡ b
-one-on-table backend p q = p ∙ sym q
 
 pub one-bounded : (g : Random) (r budget : ℕ) {a b : Answer} → BoundedPromise g r budget a → BoundedPromise g r budget b → a ≡ b
 one-bounded g r budget p q = p ∙ sym q

@@ -2,28 +2,15 @@
 // good, settles nearly every draw and writes nothing. Otherwise the loop runs, for the twister on a copy that is written back on success.
 ghost use Prim.Native.Nat.{_<_};
 ghost use Rattle.bounded.specs.Answers.{Below};
-ghost use Rattle.bounded.specs.Promises.{OnTablePromise, BoundedInPromise, BoundedPromise};
+ghost use Rattle.bounded.specs.Promises.{BoundedInPromise, BoundedPromise};
 use crate::answers::Answer;
 use crate::answers::EngineAnswer;
 use crate::answers::accept_in;
 use crate::answers::joined;
 use crate::answers::refuse_in;
 use crate::draw::draw_in;
-use random::Backend;
 use random::Engine;
 use random::Random;
-
-// Whether the kind draws from the table.
-pub fn on_table(backend: Backend) -> bool
-    ensures { λ b. ⌜ OnTablePromise backend b ⌝ }
-{
-    match backend {
-        Backend::Xoshiro256PlusPlus(_) => false,
-        Backend::MersenneTwister => true,
-        Backend::Pcg32(_) => false,
-        Backend::Pcg64(_) => false,
-    }
-}
 
 // The draw by the loop, on a copy of the table.
 fn settle_on_copy(e: Engine, mt: &mut [u32; 624], r: u32, budget: u32) -> EngineAnswer
@@ -51,7 +38,7 @@ fn settle(e: Engine, mt: &mut [u32; 624], r: u32, budget: u32) -> EngineAnswer
         return refuse_in(words::refusal::ZERO_RANGE, e);
     }
     let backend = e.backend;
-    if on_table(backend) {
+    if random::on_table(backend) {
         return settle_on_copy(e, mt, r, budget);
     }
     let t = draw_in(e, mt, r, budget);

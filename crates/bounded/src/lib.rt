@@ -3,7 +3,6 @@
 mod answers;
 mod below;
 mod draw;
-pub mod limit;
 mod ranges;
 
 pub use answers::Answer;
@@ -14,7 +13,6 @@ pub use answers::raise_in;
 pub use answers::refuse_in;
 pub use below::bounded;
 pub use below::bounded_in;
-pub use below::on_table;
 pub use draw::Tried;
 pub use draw::draw_in;
 pub use ranges::char;

@@ -4,7 +4,7 @@ use mathlib.Core.Bool.{Bool, true, false, true≢false}
 use Prim.Native.Nat.{ℕ, _≤_, _<_}
 use Rattle.words.specs.Refusal.{answered, tooLong, outOfBudget}
 use Rattle.words.specs.Draw.{Words, Drawn, all, short, Outcome, outcomeOf}
-use Rattle.bounded.specs.Limit.{listLimit}
+use Rattle.lists.specs.Limit.{listLimit}
 use Rattle.shuffle.specs.declared.rehearsal.Rehearsed.{Rehearsed}
 use Rattle.shuffle.specs.Rehearsal.{rehearsedOf}
 use Rattle.shuffle.specs.Shuffle.{placesDrawn, shuffleBy}

@@ -11,7 +11,7 @@ use Rattle.random.specs.Lent.{lent}
 use Rattle.bounded.specs.declared.answers.EngineAnswer.{EngineAnswer}
 use Rattle.bounded.specs.Answers.{refusing}
 use Rattle.bounded.specs.AnswerLaws.{refusing-answers}
-use Rattle.bounded.specs.Limit.{listLimit}
+use Rattle.lists.specs.Limit.{listLimit}
 use Rattle.shuffle.specs.Shuffle.{shuffleBy}
 use Rattle.shuffle.specs.OneShuffle.{answered-exactly-if}
 use Rattle.shuffle.specs.ShuffleAnswers.{Shuffled}

@@ -15,7 +15,7 @@ fn refusal_of(e: Engine, mt: &mut [u32; 624], n: usize, budget: u32) -> u32
     ensures number { λ r. ⌜ r ≡ shuffleBy (wordsOf (lent e (now (mt .entry)))) n budget .refusal ⌝ }
     ensures table { λ r. ⌜ now (mt .exit) ≡ now (mt .entry) ⌝ }
 {
-    if n > bounded::limit::LIST_LIMIT {
+    if n > lists::limit::LIST_LIMIT {
         return words::refusal::TOO_LONG;
     }
     if n < 2 {

@@ -2,7 +2,7 @@
 ghost use mathlib.Core.Path.{_≡_};
 ghost use Prim.Native.Nat.{_<_, _≤_};
 ghost use lib.ListN.{length};
-ghost use Rattle.bounded.specs.Limit.{listLimit};
+ghost use Rattle.lists.specs.Limit.{listLimit};
 ghost use Rattle.day_plan.specs.Day.{laidOut};
 ghost use Rattle.day_plan.specs.DayLaws.{slotOf};
 

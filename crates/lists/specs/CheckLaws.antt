@@ -8,7 +8,7 @@ use native.Mathlib.Omega.{arith}
 use borrow.Author.Tests.{lt-ltb, le-ltb, eq-eqb, ne-eqb}
 use Rattle.words.specs.Refusal.{answered, empty, tooLong, outOfBudget}
 use Rattle.words.specs.Refusal as refusal
-use Rattle.bounded.specs.Limit.{listLimit}
+use Rattle.lists.specs.Limit.{listLimit}
 use Rattle.lists.specs.Checks.{listRefusal, windowRefusal, firstOf, sliceRefusal}
 
 -- ---- the list

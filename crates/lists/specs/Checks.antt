@@ -5,7 +5,7 @@ use lib.Dec.{ltb, eqb}
 use Rattle.words.specs.Refusal.{answered, empty, tooLong}
 use Rattle.words.specs.Refusal as refusal
 use Rattle.words.specs.Draw.{Outcome, refused}
-use Rattle.bounded.specs.Limit.{listLimit}
+use Rattle.lists.specs.Limit.{listLimit}
 
 -- "an empty list"; "a list above 65,536 entries"
 unfoldable pub listRefusal : ℕ → ℕ

@@ -13,7 +13,7 @@ use Rattle.words.specs.GoodWord.{NoneGood}
 use Rattle.words.specs.BelowItsBound.{WordSized}
 use Rattle.random.specs.declared.backend.Random.{Random}
 use Rattle.random.specs.Generator.{wordsOf}
-use Rattle.bounded.specs.Limit.{listLimit}
+use Rattle.lists.specs.Limit.{listLimit}
 use Rattle.bounded.specs.Budgeted.{Budgeted, bounded-budgeted}
 use Rattle.lists.specs.Checks.{listRefusal}
 use Rattle.lists.specs.CheckLaws.{list-empty-exactly-if, list-too-long-exactly-if, list-allowed-exactly-if, list-not-short}

@@ -1,6 +1,7 @@
 -- What the list calls hand back: in the order in which to read it.
 
 -- What a reader must believe: what is refused before a word is drawn, and the outcomes of the calls.
+pub mod Limit
 pub mod Checks
 pub mod Choosing
 pub mod Slicing

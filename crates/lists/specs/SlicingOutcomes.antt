@@ -16,7 +16,7 @@ use Rattle.words.specs.GoodWord.{NoneGood}
 use Rattle.words.specs.BelowItsBound.{WordSized}
 use Rattle.random.specs.declared.backend.Random.{Random}
 use Rattle.random.specs.Generator.{wordsOf}
-use Rattle.bounded.specs.Limit.{listLimit}
+use Rattle.lists.specs.Limit.{listLimit}
 use Rattle.bounded.specs.Budgeted.{Budgeted, bounded-budgeted}
 use Rattle.lists.specs.Checks.{sliceRefusal}
 use Rattle.lists.specs.CheckLaws.{slice-empty-exactly-if, slice-too-long-exactly-if, slice-window-exactly-if, slice-allowed-exactly-if, slice-not-short}

@@ -8,7 +8,7 @@ pub fn list_refusal(n: usize) -> u32
     if n == 0 {
         return words::refusal::EMPTY;
     }
-    if n > bounded::limit::LIST_LIMIT {
+    if n > crate::limit::LIST_LIMIT {
         return words::refusal::TOO_LONG;
     }
     words::refusal::ANSWERED

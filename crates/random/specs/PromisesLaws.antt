@@ -1,9 +1,10 @@
 -- Each promise leaves one answer: two that both meet it are equal.
+use mathlib.Core.Bool.{Bool}
 use mathlib.Core.List.{List}
 use mathlib.Core.Path.{_≡_, sym, _∙_}
 use Prim.Native.Nat.{ℕ}
 use Rattle.random.specs.LentLaws.{word-apart, word64-apart}
-use Rattle.random.specs.Promises.{EngineOfPromise, EngineWithPromise, I64Promise, NextOwnPromise, NextReadyPromise, NextU32Promise, NextU64Promise, PseudoInPromise, PseudoPromise, RandPromise, U64Promise, WidthPromise, WithTablePromise}
+use Rattle.random.specs.Promises.{EngineOfPromise, EngineWithPromise, I64Promise, NextOwnPromise, NextReadyPromise, NextU32Promise, NextU64Promise, OnTablePromise, PseudoInPromise, PseudoPromise, RandPromise, U64Promise, WidthPromise, WithTablePromise}
 use Rattle.random.specs.declared.backend.Backend.{Backend}
 use Rattle.random.specs.declared.backend.Random.{Random}
 use Rattle.random.specs.declared.by_value.Signed64.{Signed64}
@@ -51,3 +52,6 @@ one-pseudo-in e mt p q = word-apart (p ∙ sym q)
 
 pub one-next-ready : (e : Engine) (mt : List ℕ) {a b : EngineWord} → NextReadyPromise e mt a → NextReadyPromise e mt b → a ≡ b
 one-next-ready e mt p q = word-apart (p ∙ sym q) .0
+
+pub one-on-table : (backend : Backend) {a b : Bool} → OnTablePromise backend a → OnTablePromise backend b → a ≡ b
+one-on-table backend p q = p ∙ sym q

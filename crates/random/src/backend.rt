@@ -1,4 +1,5 @@
 // What a generator is: its kind with the kind's small words, and beside it the twister, which the other kinds leave alone.
+ghost use Rattle.random.specs.Promises.{OnTablePromise};
 use mersenne_twister::MersenneTwister;
 use pcg::Pcg32;
 use pcg::Pcg64;
@@ -15,4 +16,16 @@ pub enum Backend {
 pub struct Random {
     pub backend: Backend,
     pub twister: MersenneTwister,
+}
+
+// Whether a kind draws from the table.
+pub fn on_table(backend: Backend) -> bool
+    ensures { λ b. ⌜ OnTablePromise backend b ⌝ }
+{
+    match backend {
+        Backend::Xoshiro256PlusPlus(_) => false,
+        Backend::MersenneTwister => true,
+        Backend::Pcg32(_) => false,
+        Backend::Pcg64(_) => false,
+    }
 }

@@ -1,8 +1,8 @@
 // Words by value: of 32 bits, of 64, and 32 words XORed. Each call hands back the next generator.
 ghost use Rattle.random.specs.Promises.{EngineOfPromise, WithTablePromise, RandPromise, U64Promise, I64Promise, PseudoPromise};
 use crate::backend::Random;
-use crate::engine;
 use crate::engine::Engine;
+use crate::lent;
 use mersenne_twister::MersenneTwister;
 
 // A word of 32 bits, and the generator after it.
@@ -48,7 +48,7 @@ pub fn rand(g: Random) -> Word32
     ensures { λ r. ⌜ RandPromise g r ⌝ }
 {
     let mut moved = g;
-    let d = engine::next_u32(engine_of(g), &mut moved.twister.mt);
+    let d = lent::next_u32(engine_of(g), &mut moved.twister.mt);
     let e = d.next;
     let mt = moved.twister.mt;
     let next = with_table(e, mt);
@@ -60,7 +60,7 @@ pub fn u64(g: Random) -> Word64
     ensures { λ r. ⌜ U64Promise g r ⌝ }
 {
     let mut moved = g;
-    let d = engine::next_u64(engine_of(g), &mut moved.twister.mt);
+    let d = lent::next_u64(engine_of(g), &mut moved.twister.mt);
     let e = d.next;
     let mt = moved.twister.mt;
     let next = with_table(e, mt);
@@ -82,7 +82,7 @@ pub fn pseudo(g: Random) -> Word32
     ensures { λ r. ⌜ PseudoPromise g r ⌝ }
 {
     let mut moved = g;
-    let d = engine::pseudo_in(engine_of(g), &mut moved.twister.mt);
+    let d = lent::pseudo_in(engine_of(g), &mut moved.twister.mt);
     let e = d.next;
     let mt = moved.twister.mt;
     let next = with_table(e, mt);

@@ -3,10 +3,12 @@
 mod backend;
 mod by_value;
 mod engine;
+mod lent;
 mod ready;
 
 pub use backend::Backend;
 pub use backend::Random;
+pub use backend::on_table;
 pub use by_value::Signed64;
 pub use by_value::Word32;
 pub use by_value::Word64;
@@ -20,9 +22,9 @@ pub use engine::Engine;
 pub use engine::EngineWord;
 pub use engine::EngineWord64;
 pub use engine::engine_with;
-pub use engine::next_own;
-pub use engine::next_u32;
-pub use engine::next_u64;
-pub use engine::pseudo_in;
-pub use engine::width;
+pub use lent::next_own;
+pub use lent::next_u32;
+pub use lent::next_u64;
+pub use lent::pseudo_in;
+pub use lent::width;
 pub use ready::next_ready;

@@ -16,7 +16,7 @@ use Rattle.bounded.specs.declared.answers.EngineAnswer.{EngineAnswer}
 use Rattle.bounded.specs.Answers as answer
 use Rattle.bounded.specs.Answers.{joinedAnswer}
 use Rattle.bounded.specs.OneAnswer.{next-after-used, one-answer, answer-apart}
-use Rattle.bounded.specs.Limit.{listLimit}
+use Rattle.lists.specs.Limit.{listLimit}
 use Rattle.shuffle.specs.Swap.{arranged}
 use Rattle.shuffle.specs.Shuffle.{placesDrawn, shuffleBy, listAfter, shuffled}
 use Rattle.shuffle.specs.ShuffleLaws.{shuffle-long, shuffle-drawn, list-long, list-drawn, none-drawn}

@@ -11,7 +11,7 @@ use lib.Dec.{eqb, ltb}
 use lib.ListN.{length, getD, set, length-set}
 use lib.Seq.{getD-set-same, getD-set-other}
 use Rattle.words.specs.Draw.{Words, Drawn, all, short}
-use Rattle.bounded.specs.Limit.{listLimit}
+use Rattle.lists.specs.Limit.{listLimit}
 use Rattle.shuffle.specs.Swap.{swapped, arranged}
 use Rattle.shuffle.specs.SwapLaws.{swap-inside, swap-first-outside, swap-second-outside, length-arranged}
 use Rattle.shuffle.specs.Shuffle.{placesDrawn, listAfter, shuffled}

@@ -7,7 +7,7 @@ use lib.Dec.{ltb}
 use lib.ListN.{length}
 use Rattle.words.specs.Refusal.{tooLong}
 use Rattle.words.specs.Draw.{Words, Drawn, all, short, draws, Outcome, refused, outcomeOf}
-use Rattle.bounded.specs.Limit.{listLimit}
+use Rattle.lists.specs.Limit.{listLimit}
 use Rattle.shuffle.specs.Bounds.{boundsFrom}
 use Rattle.shuffle.specs.Swap.{arranged}
 

@@ -15,7 +15,7 @@ use Rattle.random.specs.Lent.{joinedWith}
 use Rattle.bounded.specs.declared.answers.EngineAnswer.{EngineAnswer}
 use Rattle.bounded.specs.Answers.{joinedAnswer, answered, refusing, accepting}
 use Rattle.bounded.specs.AnswerLaws.{refusing-answers, accepting-answers}
-use Rattle.bounded.specs.Limit.{listLimit}
+use Rattle.lists.specs.Limit.{listLimit}
 use Rattle.shuffle.specs.declared.rehearsal.Rehearsed.{Rehearsed}
 use Rattle.shuffle.specs.Bounds.{boundsFrom}
 use Rattle.shuffle.specs.Rehearsal.{rehearsedOf}

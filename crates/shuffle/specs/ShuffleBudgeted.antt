@@ -14,7 +14,7 @@ use Rattle.random.specs.declared.backend.Random.{Random}
 use Rattle.random.specs.Generator.{wordsOf}
 use Rattle.bounded.specs.Answers as answer
 use Rattle.bounded.specs.Budgeted.{Budgeted, checked-budgeted, answer-larger}
-use Rattle.bounded.specs.Limit.{listLimit}
+use Rattle.lists.specs.Limit.{listLimit}
 use Rattle.shuffle.specs.Bounds.{boundsFrom}
 use Rattle.shuffle.specs.Shuffle.{placesDrawn, shuffleBy, listAfter, shuffled}
 

@@ -8,7 +8,7 @@ use lib.ListN.{length}
 use Rattle.words.specs.Refusal.{tooLong, outOfBudget}
 use Rattle.words.specs.Draw.{Words, all, short, Outcome, refused, gives, outcomeOf}
 use Rattle.words.specs.OneOutcomeOfDraws.{draws-done}
-use Rattle.bounded.specs.Limit.{listLimit}
+use Rattle.lists.specs.Limit.{listLimit}
 use Rattle.shuffle.specs.BoundsLaws.{bounds-none}
 use Rattle.shuffle.specs.Swap.{arranged}
 use Rattle.shuffle.specs.SwapLaws.{arranged-none}

@@ -3,7 +3,7 @@
 ghost use mathlib.Core.Bool.{false};
 ghost use mathlib.Core.Path.{_≡_};
 ghost use Prim.Native.Nat.{_≤_};
-ghost use Rattle.bounded.specs.TableKept.{onTable};
+ghost use Rattle.random.specs.TableKept.{onTable};
 ghost use Rattle.shuffle.specs.Bounds.{nextBound};
 ghost use Rattle.shuffle.specs.FromGenerator.{Room};
 ghost use Rattle.shuffle.specs.Rehearsal.{tell};
@@ -112,7 +112,7 @@ pub fn rehearse(
     ensures table { λ d. ⌜ RehearseTablePromise (now (mt .entry)) (now (mt .exit)) ⌝ }
 {
     let backend = e.backend;
-    if bounded::on_table(backend) {
+    if random::on_table(backend) {
         let mut copy = *mt;
         return run(e, &mut copy, first, falls, count, budget);
     }

@@ -3,7 +3,7 @@ ghost use Prim.Native.Nat.{_≤_};
 ghost use Rattle.week.specs.Slots.{WithinLimit};
 use crate::decimal::read_number;
 use crate::report;
-use bounded::limit::LIST_LIMIT;
+use lists::limit::LIST_LIMIT;
 
 // A kind and its seed, the inlets and the blanks of each day, the days, and the words that each day's draw may use.
 pub(crate) struct Job {

@@ -2,7 +2,7 @@
 // arguments, KIND SEED INLETS BLANKS DAYS BUDGET; without any it prints an example.
 ghost use mathlib.Core.Path.{_≡_};
 ghost use lib.ListN.{length};
-ghost use Rattle.bounded.specs.Limit.{listLimit};
+ghost use Rattle.lists.specs.Limit.{listLimit};
 ghost use Rattle.week.specs.Slots.{WithinLimit};
 
 mod decimal;
@@ -13,10 +13,10 @@ mod report;
 use job::Job;
 
 // Room for the longest day. The promise gives its length, which a part of it needs.
-fn longest_day() -> [u32; bounded::limit::LIST_LIMIT]
+fn longest_day() -> [u32; lists::limit::LIST_LIMIT]
     ensures { λ r. ⌜ listLimit ≡ length r ⌝ }
 {
-    [0; bounded::limit::LIST_LIMIT]
+    [0; lists::limit::LIST_LIMIT]
 }
 
 fn run(job: Job)

@@ -157,7 +157,7 @@ pub(crate) fn tell_usage() {
     err(b"  INLETS  at least 1; each opens once a day\n");
     err_number(
         b"  BLANKS  of each day; with the inlets at most ",
-        bounded::limit::LIST_LIMIT as u64,
+        lists::limit::LIST_LIMIT as u64,
     );
     err(b"\n");
     err(b"  DAYS    at least 1\n");

@@ -3,7 +3,7 @@ use mathlib.Core.Path.{refl, sym, _∙_}
 use native.Mathlib.Omega.{arith}
 use borrow.Author.Needs.{needs}
 use Rattle.bounded.specs.AnswerLaws.{draws-zero, draws-found, draws-short}
-use Rattle.bounded.specs.TableKept.{others-keep}
+use Rattle.random.specs.TableKept.{others-keep}
 use Rattle.bounded.proofs.below.settle.Statement.{statement}
 use Rattle.bounded.proofs.below.settle.Tie as tie
 

@@ -3,7 +3,7 @@ use mathlib.Core.Path.{_≡_, sym, _∙_}
 use Prim.Native.Nat.{_≤_, _<_}
 use native.Mathlib.Omega.{arith}
 use borrow.Author.Needs.{needs}
-use Rattle.bounded.specs.Limit.{listLimit}
+use Rattle.lists.specs.Limit.{listLimit}
 use Rattle.lists.specs.Checks.{sliceRefusal}
 use Rattle.lists.specs.CheckLaws.{slice-allowed-exactly-if}
 use Rattle.lists.specs.Slicing.{sliceBy}

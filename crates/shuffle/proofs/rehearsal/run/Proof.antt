@@ -7,7 +7,7 @@ use Prim.Native.Nat.{ℕ, _+_, _-_, _≤_}
 use native.Mathlib.Omega.{arith}
 use Rattle.random.specs.Generator.{wordsOf}
 use Rattle.random.specs.Lent.{joinedWith}
-use Rattle.bounded.specs.TableKept.{others-keep}
+use Rattle.random.specs.TableKept.{others-keep}
 use Rattle.shuffle.specs.Rehearsal.{rehearsedOf}
 use Rattle.shuffle.specs.Rehearsing.{Rehearsing, rehearsing-start, rehearsing-told, rehearsing-out, rehearsing-zero, rehearsing-within, Passing, passing-start, passing-good, passing-bad}
 use Rattle.shuffle.specs.FromGenerator.{Blocks, blocks-start, blocks-on, block-words}

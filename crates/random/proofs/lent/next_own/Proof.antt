@@ -2,8 +2,8 @@
 use mathlib.Core.Path.{_∙_, sym, ap}
 use borrow.Author.Needs.{needs}
 use Rattle.random.specs.GeneratorLaws.{own-wide, own-narrow, widened}
-use Rattle.random.proofs.engine.next_own.Statement.{statement}
-use Rattle.random.proofs.engine.next_own.Tie as tie
+use Rattle.random.proofs.lent.next_own.Statement.{statement}
+use Rattle.random.proofs.lent.next_own.Tie as tie
 
 width-requires : tie.Need-width-requires
 width-requires c κs = search needs

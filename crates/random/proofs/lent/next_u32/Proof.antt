@@ -3,8 +3,8 @@ use mathlib.Core.Path.{_∙_, ap}
 use Rattle.random.specs.Ready.{drawnReady}
 use Rattle.random.specs.ReadyLaws.{made-ready}
 use borrow.Author.Needs.{needs}
-use Rattle.random.proofs.engine.next_u32.Statement.{statement}
-use Rattle.random.proofs.engine.next_u32.Tie as tie
+use Rattle.random.proofs.lent.next_u32.Statement.{statement}
+use Rattle.random.proofs.lent.next_u32.Tie as tie
 
 made-ready-requires : tie.Need-made-ready-requires
 made-ready-requires c κs = search needs

@@ -5,8 +5,8 @@ use Rattle.mersenne_twister.specs.declared.Drawn64.{Drawn64}
 use Rattle.mersenne_twister.specs.Table as twister
 use Rattle.random.specs.Generator.{gen, u64Of, word64Of, later, step}
 use Rattle.random.specs.declared.backend.Backend.the-variants.{MersenneTwister}
-use Rattle.random.proofs.engine.next_u64.Statement.{statement}
-use Rattle.random.proofs.engine.next_u64.Tie as tie
+use Rattle.random.proofs.lent.next_u64.Statement.{statement}
+use Rattle.random.proofs.lent.next_u64.Tie as tie
 
 enum-known-backend : tie.Need-enum-known-backend
 enum-known-backend c = search needs

@@ -6,8 +6,8 @@ use Prim.Native.Nat.{_≤_, _-_}
 use Rattle.random.specs.Generator.{pseudoOf}
 use Rattle.random.specs.Lent.{joinedWith, joinedWord}
 use Rattle.random.specs.WordsLaws.{Xored, xored-none, xored-more}
-use Rattle.random.proofs.engine.pseudo_in.Statement.{statement}
-use Rattle.random.proofs.engine.pseudo_in.Tie as tie
+use Rattle.random.proofs.lent.pseudo_in.Statement.{statement}
+use Rattle.random.proofs.lent.pseudo_in.Tie as tie
 
 abbrev Inv-loop : tie.InvT-loop
 Inv-loop mt₀ next₀ word₀ n₀ mt next word n = (n ≤ 32) × Xored (joinedWith next₀ mt₀) n word (joinedWith next mt)
