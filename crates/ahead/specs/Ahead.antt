@@ -1,10 +1,8 @@
--- The next words of a generator, put into a block from its first entry on.
+-- The next words of a generator, put into a list from its first entry on.
 use mathlib.Core.Path.{_≡_}
-use mathlib.Core.Bool.{cond}
-use mathlib.Core.List.{List}
+use mathlib.Core.List.{List, [], _∷_, _++_}
 use Prim.Native.Nat.{ℕ, zero, suc}
-use lib.Dec.{ltb}
-use lib.ListN.{set}
+use lib.ListN.{drop}
 use Rattle.words.specs.Draw.{Words}
 use Rattle.mersenne_twister.specs.declared.MersenneTwister as twister-type
 use Rattle.mersenne_twister.specs.Table.{held}
@@ -15,18 +13,14 @@ use Rattle.random.specs.declared.backend.Backend.the-variants.{Xoshiro256PlusPl
 use Rattle.random.specs.declared.backend.Random.{Random}
 use Rattle.random.specs.Generator.{gen, later, wordsOf}
 
--- how many words a block takes, where n are asked for
-abbrev pub atMost : ℕ → ℕ
-atMost n = cond (ltb n 16) n 16
+-- The first n words of a sequence, as a list.
+unfoldable pub firstWords : Words → ℕ → List ℕ
+firstWords s zero = []
+firstWords s (suc n) = firstWords s n ++ (s n ∷ [])
 
--- a block with the first n words of a sequence in its first entries
-unfoldable pub placed : Words → ℕ → List ℕ → List ℕ
-placed s zero l = l
-placed s (suc n) l = set (placed s n l) n (s n)
-
--- n words of the generator g were put into the block l, which became l′, and h is the generator after them.
+-- n words of the generator g were put into the first entries of the list l, which became l′, and h is the generator after them.
 pub record WordsPut (g : Random) (n : ℕ) (l l′ : List ℕ) (h : Random) : Type 0 where
-  pub words : l′ ≡ placed (wordsOf g) n l
+  pub words : l′ ≡ firstWords (wordsOf g) n ++ drop n l
   pub moved : h ≡ later n g
 
 -- The same of each kind. The twister beside another kind may be any.

@@ -1,124 +1,93 @@
-// The next words of a generator, up to sixteen at once, over a lent table. Each kind has a loop of its own, so code that takes many words asks
-// for the kind once in sixteen words.
-ghost use mathlib.Core.Path.{_≡_};
-ghost use Prim.Native.Nat.{_≤_};
-ghost use Rattle.ahead.specs.Ahead.{atMost, XoshiroPut, TwisterPut, Pcg32Put, Pcg64Put};
+// The next words of a generator, one for each entry of a list, over a lent table. Each kind has a loop of its own, so code that takes many words
+// asks for the kind once.
+ghost use Rattle.ahead.specs.Ahead.{XoshiroPut, TwisterPut, Pcg32Put, Pcg64Put};
 ghost use Rattle.ahead.specs.Promises.{WordsInPromise};
+ghost use lib.ListN.{length};
 use pcg::Pcg32;
 use pcg::Pcg64;
 use random::Backend;
 use random::Engine;
+use random::engine_with;
 use xoshiro::Xoshiro256PlusPlus;
 
-// How many words a block takes; specs/Ahead.antt has the same number.
-pub const BLOCK: usize = 16;
-
-fn xoshiro_words(x: Xoshiro256PlusPlus, block: &mut [u32; BLOCK], n: usize) -> Xoshiro256PlusPlus
-    requires { ⌜ n ≤ 16 ⌝ }
-    ensures { λ r. ⌜ XoshiroPut x n (now (block .entry)) (now (block .exit)) r ⌝ }
+fn xoshiro_words(x: Xoshiro256PlusPlus, list: &mut [u32]) -> Xoshiro256PlusPlus
+    ensures { λ r. ⌜ XoshiroPut x (length (now (list .entry))) (now (list .entry)) (now (list .exit)) r ⌝ }
 {
     let mut next = x;
     let mut i: usize = 0;
-    while i < n {
+    while i < list.len() {
         let d = next.next_u32();
-        block[i] = d.word;
+        list[i] = d.word;
         next = d.next;
         i += 1;
     }
     next
 }
 
-fn pcg32_words(p: Pcg32, block: &mut [u32; BLOCK], n: usize) -> Pcg32
-    requires { ⌜ n ≤ 16 ⌝ }
-    ensures { λ r. ⌜ Pcg32Put p n (now (block .entry)) (now (block .exit)) r ⌝ }
+fn pcg32_words(p: Pcg32, list: &mut [u32]) -> Pcg32
+    ensures { λ r. ⌜ Pcg32Put p (length (now (list .entry))) (now (list .entry)) (now (list .exit)) r ⌝ }
 {
     let mut next = p;
     let mut i: usize = 0;
-    while i < n {
+    while i < list.len() {
         let d = next.next_u32();
-        block[i] = d.word;
+        list[i] = d.word;
         next = d.next;
         i += 1;
     }
     next
 }
 
-fn pcg64_words(p: Pcg64, block: &mut [u32; BLOCK], n: usize) -> Pcg64
-    requires { ⌜ n ≤ 16 ⌝ }
-    ensures { λ r. ⌜ Pcg64Put p n (now (block .entry)) (now (block .exit)) r ⌝ }
+fn pcg64_words(p: Pcg64, list: &mut [u32]) -> Pcg64
+    ensures { λ r. ⌜ Pcg64Put p (length (now (list .entry))) (now (list .entry)) (now (list .exit)) r ⌝ }
 {
     let mut next = p;
     let mut i: usize = 0;
-    while i < n {
+    while i < list.len() {
         let d = next.next_u32();
-        block[i] = d.word;
+        list[i] = d.word;
         next = d.next;
         i += 1;
     }
     next
 }
 
-fn twister_words(mt: &mut [u32; 624], mti: u32, block: &mut [u32; BLOCK], n: usize) -> u32
-    requires { ⌜ n ≤ 16 ⌝ }
-    ensures { λ r. ⌜ TwisterPut (now (mt .entry)) mti n (now (block .entry)) (now (block .exit)) (now (mt .exit)) r ⌝ }
+fn twister_words(mt: &mut [u32; 624], mti: u32, list: &mut [u32]) -> u32
+    ensures { λ r. ⌜ TwisterPut (now (mt .entry)) mti (length (now (list .entry))) (now (list .entry)) (now (list .exit)) (now (mt .exit)) r ⌝ }
 {
     let mut at = mti;
     let mut i: usize = 0;
-    while i < n {
+    while i < list.len() {
         let s = mersenne_twister::rand_in(mt, at);
-        block[i] = s.word;
+        list[i] = s.word;
         at = s.mti;
         i += 1;
     }
     at
 }
 
-// n, or a whole block where n is more.
-fn at_most(n: usize) -> usize
-    ensures few { λ r. ⌜ r ≡ atMost n ⌝ }
-    ensures small { λ r. ⌜ r ≤ 16 ⌝ }
+// The next words in the list, one for each entry, and the engine after them.
+pub fn words_in(e: Engine, mt: &mut [u32; 624], list: &mut [u32]) -> Engine
+    ensures { λ r. ⌜ WordsInPromise e (now (mt .entry)) (now (list .entry)) r (now (mt .exit)) (now (list .exit)) ⌝ }
 {
-    if n < BLOCK {
-        return n;
-    }
-    BLOCK
-}
-
-// The next n words, at most sixteen, in the block's first entries, and the engine after them. The other entries stay.
-pub fn words_in(e: Engine, mt: &mut [u32; 624], block: &mut [u32; BLOCK], n: usize) -> Engine
-    ensures { λ r. ⌜ WordsInPromise e (now (mt .entry)) (now (block .entry)) n r (now (mt .exit)) (now (block .exit)) ⌝ }
-{
-    let few = at_most(n);
     let mti = e.mti;
     let backend = e.backend;
     match backend {
         Backend::Xoshiro256PlusPlus(x) => {
-            let next = xoshiro_words(x, block, few);
-            Engine {
-                backend: Backend::Xoshiro256PlusPlus(next),
-                mti,
-            }
+            let next = xoshiro_words(x, list);
+            engine_with(Backend::Xoshiro256PlusPlus(next), mti)
         }
         Backend::MersenneTwister => {
-            let at = twister_words(mt, mti, block, few);
-            Engine {
-                backend: Backend::MersenneTwister,
-                mti: at,
-            }
+            let at = twister_words(mt, mti, list);
+            engine_with(Backend::MersenneTwister, at)
         }
         Backend::Pcg32(p) => {
-            let next = pcg32_words(p, block, few);
-            Engine {
-                backend: Backend::Pcg32(next),
-                mti,
-            }
+            let next = pcg32_words(p, list);
+            engine_with(Backend::Pcg32(next), mti)
         }
         Backend::Pcg64(p) => {
-            let next = pcg64_words(p, block, few);
-            Engine {
-                backend: Backend::Pcg64(next),
-                mti,
-            }
+            let next = pcg64_words(p, list);
+            engine_with(Backend::Pcg64(next), mti)
         }
     }
 }

@@ -100,13 +100,9 @@ module _ {s : Words} {bounds : List ℕ} {budget k : ℕ} {vs : List ℕ} where
       let run = h .running in
       rw (run .split) (next-short s (run .passed) r budget (run .drawn) rs f)
 
-  -- or the budget is used up,
+  -- or the budget is used up.
   pub underway-out : {r : ℕ} {rs : List ℕ} → Underway s bounds budget k vs (r ∷ rs) → budget ≤ k → draws s bounds budget ≡ short (length vs)
   underway-out h u =
       let c = h .counted in
       let w = h .within in
       underway-none h (λ j l. h .missed j (omega arith))
-
-  -- or the next draw is below 0.
-  pub underway-zero : {r : ℕ} {rs : List ℕ} → Underway s bounds budget k vs (r ∷ rs) → r ≡ 0 → draws s bounds budget ≡ short (length vs)
-  underway-zero h z = underway-none h (λ j l. rw z (fails-for-zero (s (h .used + j))))
