@@ -1,5 +1,5 @@
--- When a draw below r is refused, and with which number (document 01, "When the unit says no"): with 1 exactly if r is 0, and with 8 exactly
--- if r is not 0 and none of the next B words is good.
+-- When a draw below r is refused, and with which number (document 01, "When the unit says no"): with 1 exactly if r is 0, and with 8
+-- exactly if r is not 0 and none of the next B words is good.
 use mathlib.Core.Path.{_≡_, refl}
 use mathlib.Core.Logic.{_↔_}
 use Prim.Native.Nat.{ℕ, _<_}
