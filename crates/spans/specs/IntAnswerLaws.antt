@@ -10,7 +10,8 @@ use lib.IntN.{ℤ, pos, _+ℤ_}
 use mir.Syntax.{w32}
 use mir.Val.{SFits}
 use Rattle.words.specs.Refusal.{answered, order}
-use Rattle.words.specs.Draw.{Outcome, refused}
+use Rattle.words.specs.declared.outcome.Outcome.{Outcome}
+use Rattle.words.specs.Draw.{refused}
 use Rattle.signed.specs.Signed.{wrappedSum, gap}
 use Rattle.signed.specs.SignedLaws.{sum-exact}
 use Rattle.signed.specs.GapLaws.{gap-fits}

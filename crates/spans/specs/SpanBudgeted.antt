@@ -9,7 +9,8 @@ use lib.Dec.{ltb}
 use lib.IntN.{ℤ}
 use lib.Signed.{ltZ}
 use Rattle.words.specs.Refusal.{answered, order}
-use Rattle.words.specs.Draw.{Words, Outcome, refused}
+use Rattle.words.specs.declared.outcome.Outcome.{Outcome}
+use Rattle.words.specs.Draw.{Words, refused}
 use Rattle.signed.specs.Signed.{gap}
 use Rattle.random.specs.declared.backend.Random.{Random}
 use Rattle.random.specs.Generator.{wordsOf}

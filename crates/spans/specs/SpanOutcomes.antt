@@ -10,7 +10,8 @@ use native.Mathlib.Omega.{arith}
 use lib.IntN.{ℤ, pos, _+ℤ_}
 use lib.Signed.{ltZ, _≤ℤ_}
 use Rattle.words.specs.Refusal.{answered, order, outOfBudget}
-use Rattle.words.specs.Draw.{Words, quotient, Outcome, refused, gives}
+use Rattle.words.specs.declared.outcome.Outcome.{Outcome}
+use Rattle.words.specs.Draw.{Words, quotient, refused, gives}
 use Rattle.words.specs.GoodWord.{FirstGood, NoneGood}
 use Rattle.words.specs.BelowItsBound.{WordSized, first-below}
 use Rattle.words.specs.OneOutcome as one

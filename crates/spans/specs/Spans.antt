@@ -5,7 +5,8 @@ use lib.Dec.{ltb, eqb}
 use lib.IntN.{ℤ, pos, _+ℤ_}
 use lib.Signed.{ltZ}
 use Rattle.words.specs.Refusal.{answered, order, outOfBudget}
-use Rattle.words.specs.Draw.{Words, Outcome, refused, gives, boundedBy}
+use Rattle.words.specs.declared.outcome.Outcome.{Outcome}
+use Rattle.words.specs.Draw.{Words, refused, gives, boundedBy}
 use Rattle.signed.specs.Signed.{gap}
 use Rattle.bounded.specs.Ranges.{raised}
 

@@ -5,7 +5,7 @@ use mathlib.Core.List.{List, [], _∷_}
 use Prim.Native.Nat.{ℕ, zero, suc, _+_, _-_, _*_, _/_, _%_, _^_}
 use lib.Dec.{leb, eqb}
 use lib.ListN.{getD}
-pub use Rattle.words.specs.declared.outcome.Outcome.{Outcome}
+use Rattle.words.specs.declared.outcome.Outcome.{Outcome}
 use Rattle.words.specs.Refusal.{answered, zeroRange, outOfBudget}
 
 -- A sequence of words: the next one is at place 0.

@@ -6,7 +6,8 @@ use native.Mathlib.Nat.{mod-eq-of-lt}
 use borrow.Author.Tests.{eq-eqb, ne-eqb, eqb-true, eqb-false}
 use lib.Dec.{eqb}
 use Rattle.words.specs.Refusal.{answered}
-use Rattle.words.specs.Draw.{Outcome, refused, gives}
+use Rattle.words.specs.declared.outcome.Outcome.{Outcome}
+use Rattle.words.specs.Draw.{refused, gives}
 use Rattle.words.specs.Outcomes.{workedOn, mapped, raised, raisedModulo}
 
 -- ---- a value worked on
@@ -54,6 +55,10 @@ module _ (n : ℕ) (o : Outcome) where
   pub raised-refused : (o .refusal ≡ answered → ⊥) → raised n o ≡ o
   unfolding raised
   raised-refused = mapped-refused (λ v. n + v) o
+
+  pub raised-used : raised n o .used ≡ o .used
+  unfolding raised mapped
+  raised-used = refl
 
   -- as the code adds it, where the sum has 32 bits
   pub raised-exact : (o .refusal ≡ answered → n + o .value < 2 ^ 32) → raisedModulo n o ≡ raised n o

@@ -2,7 +2,8 @@
 use mathlib.Core.Bool.{Bool}
 use mathlib.Core.Path.{_≡_}
 use Prim.Native.Nat.{_*_, ℕ}
-use Rattle.words.specs.Draw.{good, quotient, Outcome, refused, gives}
+use Rattle.words.specs.declared.outcome.Outcome.{Outcome}
+use Rattle.words.specs.Draw.{good, quotient, refused, gives}
 use Rattle.words.specs.Outcomes.{raisedModulo}
 use Rattle.words.specs.Threshold.{threshold}
 

@@ -2,7 +2,7 @@
 use mathlib.Core.Bool.{Bool}
 use mathlib.Core.Path.{_≡_, sym, _∙_}
 use Prim.Native.Nat.{ℕ}
-use Rattle.words.specs.Draw.{Outcome}
+use Rattle.words.specs.declared.outcome.Outcome.{Outcome}
 use Rattle.words.specs.Promises.{GivesPromise, IsGoodPromise, ProductPromise, QuotientPromise, RaisedPromise, RefusedPromise}
 use Rattle.words.specs.Promises.{ThresholdPromise}
 
