@@ -1,10 +1,9 @@
--- What every answer's promise fixes, whatever the outcome: the next generator is the old one after the words used, and two answers that meet one
--- promise are the same, over a lent table the tables too.
-use mathlib.Core.Path.{_≡_, sym, _∙_, ap, ap₂}
-use mathlib.Core.Bool.{Bool}
+-- What every answer's promise fixes, whatever the outcome: the next generator is the old one after the words used, and two answers that
+-- meet one promise are the same, over a lent table the tables too.
+use mathlib.Core.Path.{_≡_, sym, _∙_, ap}
 use mathlib.Core.List.{List}
 use Prim.Native.Nat.{ℕ}
-use Rattle.words.specs.Draw.{Outcome, refused}
+use Rattle.words.specs.declared.outcome.Outcome.{Outcome}
 use Rattle.random.specs.declared.backend.Random.{Random}
 use Rattle.random.specs.declared.engine.Engine.{Engine}
 use Rattle.random.specs.Generator.{later}
@@ -13,24 +12,22 @@ use Rattle.random.specs.Lent.{joinedWith, engineIn, tableIn}
 use Rattle.random.specs.LentLaws.{joined-apart}
 use Rattle.bounded.specs.declared.answers.Answer.{Answer}
 use Rattle.bounded.specs.declared.answers.EngineAnswer.{EngineAnswer}
-use Rattle.bounded.specs.declared.draw.Tried.{Tried}
-use Rattle.bounded.specs.Answers.{answered, joinedAnswer}
-use Rattle.bounded.specs.Trying.{TriedFrom}
+use Rattle.bounded.specs.Answers.{answerFrom, joinedAnswer}
 
 -- ---- by value
 
-module _ {a : Answer} (g : Random) (o : Outcome) (p : a ≡ answered g o) where
+module _ {a : Answer} (g : Random) (o : Outcome) (p : a ≡ answerFrom g o) where
   -- "The new generator is the old one after that many words" (document 01, "Draws").
   pub next-after-used : a .next ≡ later (a .used) g
-  unfolding answered
+  unfolding answerFrom
   next-after-used = rw p
 
-  -- "a refusal leaves generator .. unchanged" (the order, demand 1)
-  pub refused-unmoved : {number : ℕ} → o ≡ refused number → a .next ≡ g
-  unfolding answered
-  refused-unmoved q = rw (p, q, later-none g)
+  -- "a refusal leaves generator .. unchanged" (the order, demand 1), since it has used no word
+  pub refused-unmoved : o .used ≡ 0 → a .next ≡ g
+  unfolding answerFrom
+  refused-unmoved none = rw (p, none, later-none g)
 
-  pub one-answer : {b : Answer} → b ≡ answered g o → a ≡ b
+  pub one-answer : {b : Answer} → b ≡ answerFrom g o → a ≡ b
   one-answer q = p ∙ sym q
 
 -- ---- over a lent table
@@ -42,20 +39,6 @@ answer-apart h = (
 )
 
 -- the engine and the table are as they came
-pub refused-unmoved-in : {a : EngineAnswer} {m′ : List ℕ} {number : ℕ} (e : Engine) (m : List ℕ) (o : Outcome)
-    → joinedAnswer a m′ ≡ answered (joinedWith e m) o → o ≡ refused number → (a .next ≡ e) × (m′ ≡ m)
-refused-unmoved-in e m o p q = joined-apart (refused-unmoved (joinedWith e m) o p q)
-
--- ---- a try of the loop
-
-pub one-try : {g : Random} {r budget : ℕ} {t u : Tried} {m m′ : List ℕ} → TriedFrom g r budget t (joinedWith (t .next) m)
-    → TriedFrom g r budget u (joinedWith (u .next) m′)
-    → (t ≡ u) × (m ≡ m′)
-one-try {g} {t = t} {u = u} {m} {m′} p q =
-    let used : t .used ≡ u .used = p .told .taken ∙ sym (q .told .taken) in
-    let (engine, table) = joined-apart (p .moved ∙ ap (λ (n : ℕ). later n g) used ∙ sym (q .moved)) in
-    let found = p .told .found ∙ sym (q .told .found) in
-    let value = p .told .value ∙ sym (q .told .value) in
-    let first = ap₂ {C = Tried} (λ (b : Bool) (v : ℕ). record { found = b; value = v; used = t .used; next = t .next }) found value in
-    let second = ap₂ {C = Tried} (λ (n : ℕ) (e : Engine). record { found = u .found; value = u .value; used = n; next = e }) used engine in
-    (first ∙ second, table)
+pub refused-unmoved-in : {a : EngineAnswer} {m′ : List ℕ} (e : Engine) (m : List ℕ) (o : Outcome)
+    → joinedAnswer a m′ ≡ answerFrom (joinedWith e m) o → o .used ≡ 0 → (a .next ≡ e) × (m′ ≡ m)
+refused-unmoved-in e m o p none = joined-apart (refused-unmoved (joinedWith e m) o p none)

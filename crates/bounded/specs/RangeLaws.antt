@@ -4,7 +4,8 @@ use Prim.Native.Nat.{ℕ, _-_, _≤_, _<_}
 use borrow.Author.Tests.{le-leb, lt-leb}
 use Rattle.words.specs.Refusal.{order}
 use Rattle.words.specs.Draw.{Words, refused, boundedBy}
-use Rattle.bounded.specs.Ranges.{raised, rangeBy}
+use Rattle.words.specs.Outcomes.{raised}
+use Rattle.bounded.specs.Ranges.{rangeBy}
 
 module _ (s : Words) (min max budget : ℕ) where
   pub range-order : max ≤ min → rangeBy s min max budget ≡ refused order

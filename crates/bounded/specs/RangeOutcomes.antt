@@ -1,5 +1,5 @@
--- Exactly one outcome for `random_range` and `char`, said as a relation in the documents' words: when each is refused, and with which number;
--- and between which numbers an answer lies.
+-- Exactly one outcome for `random_range` and `char`, said as a relation in the documents' words: when each is refused, and with which
+-- number; and between which numbers an answer lies.
 use mathlib.Core.Path.{_≡_, refl, _∙_, ap}
 use mathlib.Core.Logic.{_↔_}
 use native.Mathlib.Decide.{decLe}
@@ -7,14 +7,16 @@ use native.Mathlib.Nat.{lt-of-not-le}
 use Prim.Native.Nat.{ℕ, _+_, _-_, _≤_, _<_}
 use native.Mathlib.Omega.{arith}
 use Rattle.words.specs.Refusal.{answered, order, outOfBudget}
-use Rattle.words.specs.Draw.{Words, quotient, Outcome, refused, gives, boundedBy}
+use Rattle.words.specs.declared.outcome.Outcome.{Outcome}
+use Rattle.words.specs.Draw.{Words, quotient, refused, gives, boundedBy}
 use Rattle.words.specs.GoodWord.{FirstGood, NoneGood}
 use Rattle.words.specs.BelowItsBound.{WordSized, first-below}
 use Rattle.words.specs.OneOutcome.{Bounded, zero-range, bounded-is, bounded-only}
 use Rattle.words.specs.OneOutcome as one
-use Rattle.bounded.specs.Ranges.{raised, rangeBy, charBy}
+use Rattle.words.specs.Outcomes.{raised}
+use Rattle.words.specs.OutcomeLaws.{raised-answered, raised-refused}
+use Rattle.bounded.specs.Ranges.{rangeBy, charBy}
 use Rattle.bounded.specs.RangeLaws.{range-order, range-drawn}
-use Rattle.bounded.specs.Budgeted.{raised-answered, raised-refused}
 
 -- ---- a draw below r > 0 with n added
 
@@ -95,8 +97,11 @@ module _ (s : Words) (budget : ℕ) where
   char-only d = raised-only (omega arith) d
 
   pub char-out-of-budget-exactly-if : (charBy s budget .refusal ≡ answered → ⊥) ↔ NoneGood s 26 budget
-  char-out-of-budget-exactly-if = (only-if char-is, λ f e. absurd (omega (arith, ap (λ (o : Outcome). o .refusal) (char-only (out-of-budget f)))))
+  char-out-of-budget-exactly-if = (only-if char-is, λ f e. absurd (omega (arith, refused-number f)))
     where
+      refused-number : NoneGood s 26 budget → charBy s budget .refusal ≡ outOfBudget
+      refused-number f = ap (λ (o : Outcome). o .refusal) (char-only (out-of-budget f))
+
       only-if : {o : Outcome} → Raised s 97 26 budget o → (o .refusal ≡ answered → ⊥) → NoneGood s 26 budget
       only-if (answers k f) e = absurd (e refl)
       only-if (out-of-budget f) e = f

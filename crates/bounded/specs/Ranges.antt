@@ -1,13 +1,11 @@
 -- Draws that are a draw below a bound with a number added (document 01, "Draws"), over any sequence of words.
 use mathlib.Core.Bool.{cond}
-use Prim.Native.Nat.{ℕ, _+_, _-_}
-use lib.Dec.{leb, eqb}
-use Rattle.words.specs.Refusal.{answered, order}
-use Rattle.words.specs.Draw.{Words, Outcome, refused, gives, boundedBy}
-
--- n added to the value of an answer; a refusal stays as it is
-unfoldable pub raised : ℕ → Outcome → Outcome
-raised n o = cond (eqb (o .refusal) answered) (gives (n + o .value) (o .used)) o
+use Prim.Native.Nat.{ℕ, _-_}
+use lib.Dec.{leb}
+use Rattle.words.specs.Refusal.{order}
+use Rattle.words.specs.declared.outcome.Outcome.{Outcome}
+use Rattle.words.specs.Draw.{Words, refused, boundedBy}
+use Rattle.words.specs.Outcomes.{raised}
 
 -- `random_range`: "min up to max - 1"; "min >= max" is refused
 unfoldable pub rangeBy : Words → ℕ → ℕ → ℕ → Outcome

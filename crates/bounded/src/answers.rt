@@ -1,7 +1,9 @@
-// What the calls that draw a number hand back: the one place that builds answers.
-ghost use Rattle.bounded.specs.Promises.{RefuseInPromise, AcceptInPromise, RaiseInPromise, JoinedPromise};
+// What the calls that draw a number hand back: an outcome, and the generator after the words that it used. The one place that builds
+// answers.
+ghost use Rattle.bounded.specs.Promises.{AnswerInPromise, OutcomeOfPromise, RefuseInPromise, AcceptInPromise, JoinedPromise};
 use random::Engine;
 use random::Random;
+use words::Outcome;
 
 // Refusal 0 where the call is answered. Where it is refused, value and used are 0, and next is the generator that came in.
 pub struct Answer {
@@ -19,40 +21,41 @@ pub struct EngineAnswer {
     pub used: u32,
 }
 
+// The answer of an outcome: with the engine after its words.
+pub fn answer_in(o: Outcome, next: Engine) -> EngineAnswer
+    ensures { λ a. ⌜ AnswerInPromise o next a ⌝ }
+{
+    EngineAnswer {
+        next,
+        refusal: o.refusal,
+        value: o.value,
+        used: o.used,
+    }
+}
+
+// The outcome of an answer: all but its engine.
+pub fn outcome_of(a: EngineAnswer) -> Outcome
+    ensures { λ o. ⌜ OutcomeOfPromise a o ⌝ }
+{
+    Outcome {
+        refusal: a.refusal,
+        value: a.value,
+        used: a.used,
+    }
+}
+
 // A refused call: its number, and the engine that came in.
 pub fn refuse_in(number: u32, e: Engine) -> EngineAnswer
     ensures { λ a. ⌜ RefuseInPromise number e a ⌝ }
 {
-    EngineAnswer {
-        refusal: number,
-        value: 0,
-        used: 0,
-        next: e,
-    }
+    answer_in(words::refused(number), e)
 }
 
 // An answered call: its value, the words used, and the engine after them.
 pub fn accept_in(value: u32, used: u32, next: Engine) -> EngineAnswer
     ensures { λ a. ⌜ AcceptInPromise value used next a ⌝ }
 {
-    EngineAnswer {
-        refusal: words::refusal::ANSWERED,
-        value,
-        used,
-        next,
-    }
-}
-
-// An answer with n added to its value, modulo 2^32; a refusal stays as it is.
-pub fn raise_in(n: u32, a: EngineAnswer) -> EngineAnswer
-    ensures { λ r. ⌜ RaiseInPromise n a r ⌝ }
-{
-    if a.refusal == words::refusal::ANSWERED {
-        let next = a.next;
-        let sum = (n as u64) + (a.value as u64);
-        return accept_in((sum % 0x1_0000_0000) as u32, a.used, next);
-    }
-    a
+    answer_in(words::gives(value, used), next)
 }
 
 // Either of them by value: the answer over a lent table, and the table that it left.

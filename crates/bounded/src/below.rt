@@ -55,7 +55,7 @@ pub fn bounded_in(e: Engine, mt: &mut [u32; 624], r: u32, budget: u32) -> Engine
     ensures small { λ a. ⌜ Below r a ⌝ }
 {
     if budget > 0 {
-        if e.mti < mersenne_twister::END {
+        if random::surely_ready(e) {
             let w = random::next_ready(e, mt);
             if words::is_good(w.word, r) {
                 let next = w.next;

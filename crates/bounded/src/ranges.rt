@@ -2,8 +2,9 @@
 ghost use Rattle.bounded.specs.Promises.{RandomRangeInPromise, RandomRangePromise, CharInPromise, CharPromise};
 use crate::answers::Answer;
 use crate::answers::EngineAnswer;
+use crate::answers::answer_in;
 use crate::answers::joined;
-use crate::answers::raise_in;
+use crate::answers::outcome_of;
 use crate::answers::refuse_in;
 use crate::below::bounded_in;
 use random::Engine;
@@ -22,7 +23,9 @@ pub fn random_range_in(
     if max <= min {
         return refuse_in(words::refusal::ORDER, e);
     }
-    raise_in(min, bounded_in(e, mt, max - min, budget))
+    let a = bounded_in(e, mt, max - min, budget);
+    let next = a.next;
+    answer_in(words::raised(min, outcome_of(a)), next)
 }
 
 // A number from min up to max - 1.
@@ -45,7 +48,9 @@ pub fn random_range(g: Random, min: u32, max: u32, budget: u32) -> Answer
 pub fn char_in(e: Engine, mt: &mut [u32; 624], budget: u32) -> EngineAnswer
     ensures { λ a. ⌜ CharInPromise e (now (mt .entry)) budget a (now (mt .exit)) ⌝ }
 {
-    raise_in(97, bounded_in(e, mt, 26, budget))
+    let a = bounded_in(e, mt, 26, budget);
+    let next = a.next;
+    answer_in(words::raised(97, outcome_of(a)), next)
 }
 
 // A small letter's ASCII code.

@@ -8,7 +8,8 @@ use native.Mathlib.Omega.{arith}
 use borrow.Author.Tests.{eqb-true, eqb-false, eq-eqb, ne-eqb}
 use lib.Dec.{eqb}
 use Rattle.words.specs.Refusal.{answered, outOfBudget}
-use Rattle.words.specs.Draw.{Words, quotient, Outcome, refused, gives, boundedBy}
+use Rattle.words.specs.declared.outcome.Outcome.{Outcome}
+use Rattle.words.specs.Draw.{Words, quotient, refused, gives, boundedBy}
 use Rattle.words.specs.GoodWord.{FirstGood, NoneGood}
 use Rattle.words.specs.BelowItsBound.{WordSized, first-below}
 use Rattle.words.specs.OneOutcome.{Bounded, zero-range, bounded-is, bounded-only}

@@ -4,7 +4,8 @@ use Prim.Native.Nat.{ℕ}
 use lib.Dec.{ltb, eqb}
 use Rattle.words.specs.Refusal.{answered, empty, tooLong}
 use Rattle.words.specs.Refusal as refusal
-use Rattle.words.specs.Draw.{Outcome, refused}
+use Rattle.words.specs.declared.outcome.Outcome.{Outcome}
+use Rattle.words.specs.Draw.{refused}
 use Rattle.lists.specs.Limit.{listLimit}
 
 -- "an empty list"; "a list above 65,536 entries"

@@ -7,7 +7,7 @@ use lib.Dec.{eqb}
 use mathlib.Core.Bool.{cond}
 use lib.ListN.{getD}
 use Rattle.words.specs.Refusal.{answered}
-use Rattle.words.specs.Draw.{Outcome}
+use Rattle.words.specs.declared.outcome.Outcome.{Outcome}
 use Rattle.random.specs.declared.backend.Random.{Random}
 use Rattle.bounded.specs.declared.answers.EngineAnswer.{EngineAnswer}
 use Rattle.bounded.specs.declared.answers.Answer.{Answer}

@@ -8,7 +8,8 @@ use native.Mathlib.Omega.{arith}
 use borrow.Author.Tests.{eq-eqb, ne-eqb}
 use lib.ListN.{length, getD}
 use Rattle.words.specs.Refusal.{answered, empty, tooLong, outOfBudget}
-use Rattle.words.specs.Draw.{Words, Outcome}
+use Rattle.words.specs.declared.outcome.Outcome.{Outcome}
+use Rattle.words.specs.Draw.{Words}
 use Rattle.words.specs.GoodWord.{NoneGood}
 use Rattle.words.specs.BelowItsBound.{WordSized}
 use Rattle.random.specs.declared.backend.Random.{Random}

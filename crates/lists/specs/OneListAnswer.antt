@@ -3,7 +3,8 @@
 use mathlib.Core.Path.{_≡_, sym, _∙_, ap}
 use mathlib.Core.List.{List}
 use Prim.Native.Nat.{ℕ}
-use Rattle.words.specs.Draw.{Outcome, refused}
+use Rattle.words.specs.declared.outcome.Outcome.{Outcome}
+use Rattle.words.specs.Draw.{refused}
 use Rattle.random.specs.declared.backend.Random.{Random}
 use Rattle.random.specs.declared.engine.Engine.{Engine}
 use Rattle.random.specs.Generator.{later}

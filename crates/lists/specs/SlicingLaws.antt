@@ -5,7 +5,7 @@ use Prim.Native.Nat.{ℕ, _+_, _-_, _≤_, _<_}
 use native.Mathlib.Omega.{arith}
 use borrow.Author.Tests.{le-leb, lt-leb}
 use lib.ListN.{length, take, drop}
-use Rattle.words.specs.Draw.{Outcome}
+use Rattle.words.specs.declared.outcome.Outcome.{Outcome}
 use Rattle.random.specs.declared.backend.Random.{Random}
 use Rattle.bounded.specs.declared.answers.Answer.{Answer}
 use Rattle.bounded.specs.Answers.{answered}

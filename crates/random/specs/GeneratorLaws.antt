@@ -9,7 +9,8 @@ use Rattle.pcg.specs.declared.pcg32.Pcg32 as pcg32-type
 use Rattle.random.specs.declared.backend.Backend.{Backend}
 use Rattle.random.specs.declared.backend.Backend.the-variants.{Xoshiro256PlusPlus, MersenneTwister, Pcg32, Pcg64}
 use Rattle.random.specs.declared.backend.Random.{Random}
-use Rattle.random.specs.Generator.{gen, step, stepBy, widthOf, ownWord, ownBy, wordOf, wordBy, word64Of, word64By, steps64, later, wordsOf, randOf, u64Of, ownOf}
+use Rattle.random.specs.Generator.{gen, step, stepBy, widthOf, ownWord, ownBy, wordOf, wordBy, word64Of, word64By, steps64}
+use Rattle.random.specs.Generator.{later, wordsOf, randOf, u64Of, ownOf}
 use Rattle.random.specs.declared.by_value.Word32.{Word32}
 use Rattle.random.specs.declared.by_value.Word64.{Word64}
 

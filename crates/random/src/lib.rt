@@ -28,3 +28,4 @@ pub use lent::next_u64;
 pub use lent::pseudo_in;
 pub use lent::width;
 pub use ready::next_ready;
+pub use ready::surely_ready;

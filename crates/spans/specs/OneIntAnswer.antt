@@ -1,5 +1,5 @@
--- What the promise of `int` and `range` fixes, whatever the outcome, as of every answer: the next generator is the old one after the words used,
--- and two answers that meet one promise are the same, over a lent table the tables too.
+-- What the promise of `int` and `range` fixes, whatever the outcome, as of every answer: the next generator is the old one after the words
+-- used, and two answers that meet one promise are the same, over a lent table the tables too.
 use mathlib.Core.Path.{_≡_, sym, _∙_, ap}
 use mathlib.Core.List.{List}
 use Prim.Native.Nat.{ℕ}
@@ -11,21 +11,22 @@ use Rattle.random.specs.Lent.{joinedWith, engineIn, tableIn}
 use Rattle.random.specs.LentLaws.{joined-apart}
 use Rattle.spans.specs.declared.ints.IntAnswer.{IntAnswer}
 use Rattle.spans.specs.declared.ints.IntEngineAnswer.{IntEngineAnswer}
-use Rattle.spans.specs.Spans.{IntOutcome, intRefused}
-use Rattle.spans.specs.IntAnswers.{intAnswered, joinedInt}
+use Rattle.spans.specs.declared.counting.IntOutcome.{IntOutcome}
+use Rattle.spans.specs.IntAnswers.{intAnswerFrom, joinedInt}
 
 -- ---- by value
 
-module _ {a : IntAnswer} (g : Random) (o : IntOutcome) (p : a ≡ intAnswered g o) where
+module _ {a : IntAnswer} (g : Random) (o : IntOutcome) (p : a ≡ intAnswerFrom g o) where
   pub int-next-after-used : a .next ≡ later (a .used) g
-  unfolding intAnswered
+  unfolding intAnswerFrom
   int-next-after-used = rw p
 
-  pub int-refused-unmoved : {number : ℕ} → o ≡ intRefused number → a .next ≡ g
-  unfolding intAnswered
-  int-refused-unmoved q = rw (p, q, later-none g)
+  -- a refusal has used no word
+  pub int-refused-unmoved : o .used ≡ 0 → a .next ≡ g
+  unfolding intAnswerFrom
+  int-refused-unmoved none = rw (p, none, later-none g)
 
-  pub one-int-answer : {b : IntAnswer} → b ≡ intAnswered g o → a ≡ b
+  pub one-int-answer : {b : IntAnswer} → b ≡ intAnswerFrom g o → a ≡ b
   one-int-answer q = p ∙ sym q
 
 -- ---- over a lent table
@@ -36,6 +37,6 @@ int-answer-apart h = (
   ap (λ (x : IntAnswer). tableIn (x .next)) h,
 )
 
-pub int-refused-unmoved-in : {a : IntEngineAnswer} {m′ : List ℕ} {number : ℕ} (e : Engine) (m : List ℕ) (o : IntOutcome)
-    → joinedInt a m′ ≡ intAnswered (joinedWith e m) o → o ≡ intRefused number → (a .next ≡ e) × (m′ ≡ m)
-int-refused-unmoved-in e m o p q = joined-apart (int-refused-unmoved (joinedWith e m) o p q)
+pub int-refused-unmoved-in : {a : IntEngineAnswer} {m′ : List ℕ} (e : Engine) (m : List ℕ) (o : IntOutcome)
+    → joinedInt a m′ ≡ intAnswerFrom (joinedWith e m) o → o .used ≡ 0 → (a .next ≡ e) × (m′ ≡ m)
+int-refused-unmoved-in e m o p none = joined-apart (int-refused-unmoved (joinedWith e m) o p none)

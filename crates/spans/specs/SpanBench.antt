@@ -6,9 +6,11 @@ use Prim.Native.Nat.{ℕ}
 use lib.IntN.{ℤ, pos, negℤ}
 use Rattle.words.specs.Refusal.{outOfBudget}
 use Rattle.words.specs.Draw.{listed, first, firstGood, boundedBy}
+use Rattle.words.specs.Outcomes.{workedOn}
 use Rattle.words.specs.Table.{Row, Holds, end, _&_}
 use Rattle.signed.specs.Signed.{gap}
-use Rattle.spans.specs.Spans.{rawBy, spanBy, IntOutcome, intRefused, intGives, countedFrom, intBy}
+use Rattle.spans.specs.declared.counting.IntOutcome.{IntOutcome}
+use Rattle.spans.specs.Spans.{rawBy, spanBy, intRefused, intGives, signedBy, countedFrom, intBy}
 
 -- `int` from min to max from the given words, with a budget
 abbrev pub between : ℤ → ℤ → List ℕ → ℕ → IntOutcome → Row
@@ -20,7 +22,8 @@ whole = between (negℤ (pos 2147483648)) (pos 2147483647)
 
 abbrev pub spanBench : List Row
 spanBench =
-    -- over its full span: 0 gives -2147483648, 0x80000000 gives 0, 0xFFFFFFFF gives 2147483647; one raw word, so that budget 0 refuses with 8
+    -- over its full span: 0 gives -2147483648, 0x80000000 gives 0, 0xFFFFFFFF gives 2147483647; one raw word, so that budget 0 refuses
+    -- with 8
     whole (0 ∷ []) 1 (intGives (negℤ (pos 2147483648)) 1)
     ∷ whole (0x8000_0000 ∷ []) 1 (intGives (pos 0) 1)
     ∷ whole (0xffff_ffff ∷ []) 1 (intGives (pos 2147483647) 1)
@@ -32,5 +35,5 @@ spanBench =
     ∷ []
 
 pub span-bench-holds : Holds spanBench
-unfolding intBy countedFrom spanBy rawBy gap boundedBy firstGood first
+unfolding intBy countedFrom signedBy workedOn spanBy rawBy gap boundedBy firstGood first
 span-bench-holds = refl & refl & refl & refl & refl & refl & end

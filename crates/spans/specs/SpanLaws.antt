@@ -10,6 +10,8 @@ use lib.IntN.{ℤ}
 use lib.Signed.{ltZ}
 use Rattle.words.specs.Refusal.{order, outOfBudget}
 use Rattle.words.specs.Draw.{Words, refused, gives, boundedBy}
+use Rattle.words.specs.Outcomes.{raised}
+use Rattle.words.specs.GoodWord.{FirstGood}
 use Rattle.words.specs.OneOutcome.{out-of-budget, bounded-only}
 use Rattle.words.specs.AnswerIsFirst.{first-is-answer}
 use Rattle.signed.specs.Signed.{gap}
@@ -20,9 +22,8 @@ use Rattle.random.specs.declared.by_value.Word32.{Word32}
 use Rattle.random.specs.GeneratorLaws.{later-none, later-one, word-at}
 use Rattle.random.specs.Lent.{joinedWith, joinedWord}
 use Rattle.bounded.specs.declared.answers.EngineAnswer.{EngineAnswer}
-use Rattle.bounded.specs.Answers.{joinedAnswer, answered, accepting}
+use Rattle.bounded.specs.Answers.{AnswersIn, accepting}
 use Rattle.bounded.specs.AnswerLaws.{accepting-answers}
-use Rattle.bounded.specs.Ranges.{raised}
 use Rattle.spans.specs.Spans.{rawBy, spanBy, uintBy, countedFrom, intBy}
 
 -- ---- one raw word
@@ -42,8 +43,10 @@ pub raw-is-bounded : (s : Words) (budget : ℕ) → rawBy s budget ≡ boundedBy
 raw-is-bounded s zero = raw-short s 0 refl ∙ sym (bounded-only s (2 ^ 32) 0 (out-of-budget (omega arith) (λ j h. absurd (omega arith))))
 raw-is-bounded s (suc n) =
     let whole : s 0 * 2 ^ 32 / 2 ^ 32 ≡ s 0 = omega arith in
-    let first = first-is-answer s (2 ^ 32) (suc n) 0 (record { among = omega arith; passes = omega arith; none-before = λ j h. absurd (omega arith) }) in
-    raw-word s (suc n) (omega arith) ∙ sym (first ∙ ap (λ (v : ℕ). gives v 1) whole)
+    raw-word s (suc n) (omega arith) ∙ sym (first-is-answer s (2 ^ 32) (suc n) 0 first-good ∙ ap (λ (v : ℕ). gives v 1) whole)
+  where
+    first-good : FirstGood s (2 ^ 32) (suc n) 0
+    first-good = record { among = omega arith; passes = omega arith; none-before = λ j h. absurd (omega arith) }
 
 -- ---- from 0 up to `last`
 
@@ -95,8 +98,8 @@ module _ (s : Words) (min max : ℤ) (budget : ℕ) where
 
 -- ---- the first word of a generator, as the code answers it
 
-pub raw-answers : {a : EngineAnswer} {w : EngineWord} {budget : ℕ} (e : Engine) (m m′ : List ℕ) → 0 < budget → joinedWord w m′ ≡ randOf (joinedWith e m)
-    → a ≡ accepting (w .word) 1 (w .next) → joinedAnswer a m′ ≡ answered (joinedWith e m) (rawBy (wordsOf (joinedWith e m)) budget)
+pub raw-answers : {a : EngineAnswer} {w : EngineWord} {budget : ℕ} (e : Engine) (m m′ : List ℕ) → 0 < budget
+    → joinedWord w m′ ≡ randOf (joinedWith e m) → a ≡ accepting (w .word) 1 (w .next) → AnswersIn e m (λ s. rawBy s budget) a m′
 unfolding randOf
 raw-answers {w = w} {budget = budget} e m m′ some d p =
     let g = joinedWith e m in

@@ -1,5 +1,5 @@
--- Exactly one outcome for `uint`, `int` and `range`, said as a relation in document 01's words: when each is refused, and with which number; and
--- that an answer lies between the two ends.
+-- Exactly one outcome for `uint`, `int` and `range`, said as a relation in document 01's words: when each is refused, and with which
+-- number; and that an answer lies between the two ends.
 use mathlib.Core.Path.{_≡_, refl, _∙_, ap}
 use mathlib.Core.Bool.{Bool, true, false}
 use mathlib.Core.Logic.{_↔_}
@@ -10,15 +10,17 @@ use native.Mathlib.Omega.{arith}
 use lib.IntN.{ℤ, pos, _+ℤ_}
 use lib.Signed.{ltZ, _≤ℤ_}
 use Rattle.words.specs.Refusal.{answered, order, outOfBudget}
-use Rattle.words.specs.Draw.{Words, quotient, Outcome, refused, gives}
+use Rattle.words.specs.declared.outcome.Outcome.{Outcome}
+use Rattle.words.specs.Draw.{Words, quotient, refused, gives}
 use Rattle.words.specs.GoodWord.{FirstGood, NoneGood}
 use Rattle.words.specs.BelowItsBound.{WordSized, first-below}
 use Rattle.words.specs.OneOutcome as one
 use Rattle.signed.specs.Signed.{gap}
 use Rattle.signed.specs.GapLaws.{gap-least, gap-most}
-use Rattle.bounded.specs.Ranges.{raised}
-use Rattle.bounded.specs.Budgeted.{raised-answered, raised-refused}
-use Rattle.spans.specs.Spans.{spanBy, uintBy, IntOutcome, intRefused, intGives, countedFrom, intBy}
+use Rattle.words.specs.Outcomes.{workedOn, raised}
+use Rattle.words.specs.OutcomeLaws.{raised-answered, raised-refused}
+use Rattle.spans.specs.declared.counting.IntOutcome.{IntOutcome}
+use Rattle.spans.specs.Spans.{spanBy, uintBy, intRefused, intGives, signedBy, countedFrom, intBy}
 use Rattle.spans.specs.SpanLaws.{span-none, span-whole, span-drawn, raw-word, raw-short, uint-order, uint-drawn, int-order, int-drawn}
 
 -- ---- from 0 up to `last`: one number takes no word, and the others are the first good word's, below last + 1
@@ -30,8 +32,10 @@ pub data Spanned (s : Words) (last budget : ℕ) : Outcome → Type 0 where
 
 pub spanned-only : {s : Words} {last budget : ℕ} {o : Outcome} → Spanned s last budget o → spanBy s last budget ≡ o
 spanned-only {s} {last} {budget} (single z) = span-none s last budget z
-spanned-only {s} {last} {budget} (answers k h f) = span-drawn s last budget h ∙ one.bounded-only s (last + 1) budget (one.answers k (omega arith) f)
-spanned-only {s} {last} {budget} (out-of-budget h f) = span-drawn s last budget h ∙ one.bounded-only s (last + 1) budget (one.out-of-budget (omega arith) f)
+spanned-only {s} {last} {budget} (answers k h f) =
+    span-drawn s last budget h ∙ one.bounded-only s (last + 1) budget (one.answers k (omega arith) f)
+spanned-only {s} {last} {budget} (out-of-budget h f) =
+    span-drawn s last budget h ∙ one.bounded-only s (last + 1) budget (one.out-of-budget (omega arith) f)
 
 pub spanned-is : (s : Words) (last budget : ℕ) → Spanned s last budget (spanBy s last budget)
 spanned-is s zero budget = rw (span-none s 0 budget refl) (single refl)
@@ -55,7 +59,8 @@ pub whole-refused : (s : Words) → spanBy s (2 ^ 32 - 1) 0 ≡ refused outOfBud
 whole-refused s = span-whole s (2 ^ 32 - 1) 0 refl ∙ raw-short s 0 refl
 
 -- when the draw within a span is refused
-pub span-out-of-budget-exactly-if : (s : Words) (last budget : ℕ) → (spanBy s last budget .refusal ≡ outOfBudget) ↔ ((0 < last) × NoneGood s (last + 1) budget)
+pub span-out-of-budget-exactly-if : (s : Words) (last budget : ℕ)
+    → (spanBy s last budget .refusal ≡ outOfBudget) ↔ ((0 < last) × NoneGood s (last + 1) budget)
 span-out-of-budget-exactly-if s last budget =
     (only-if (spanned-is s last budget), λ h. ap (λ (o : Outcome). o .refusal) (spanned-only (out-of-budget (h .0) (h .1))))
   where
@@ -74,8 +79,10 @@ pub data Uinted (s : Words) (min max budget : ℕ) : Outcome → Type 0 where
 module _ (s : Words) (min max budget : ℕ) where
   pub uinted-only : {o : Outcome} → Uinted s min max budget o → uintBy s min max budget ≡ o
   uinted-only (wrong-order h) = uint-order s min max budget h
-  uinted-only (drawn {v} {n} h d) = uint-drawn s min max budget h ∙ ap (raised min) (spanned-only d) ∙ raised-answered min (gives v n) refl
-  uinted-only (short h d) = uint-drawn s min max budget h ∙ ap (raised min) (spanned-only d) ∙ raised-refused min (refused outOfBudget) (λ e. omega arith)
+  uinted-only (drawn {v} {n} h d) =
+      uint-drawn s min max budget h ∙ ap (raised min) (spanned-only d) ∙ raised-answered min (gives v n) refl
+  uinted-only (short h d) =
+      uint-drawn s min max budget h ∙ ap (raised min) (spanned-only d) ∙ raised-refused min (refused outOfBudget) (λ e. omega arith)
 
   pub uinted-is : Uinted s min max budget (uintBy s min max budget)
   uinted-is =
@@ -102,14 +109,18 @@ module _ (s : Words) (min max budget : ℕ) where
 
   pub uint-out-of-budget-exactly-if : (uintBy s min max budget .refusal ≡ outOfBudget) ↔ ((min < max) × NoneGood s (max - min + 1) budget)
   uint-out-of-budget-exactly-if =
-      (only-if uinted-is, λ h. ap (λ (o : Outcome). o .refusal) (uinted-only (short (let l = h .0 in omega arith) (out-of-budget (let l = h .0 in omega arith) (h .1)))))
+      (only-if uinted-is, λ h. ap (λ (o : Outcome). o .refusal) (uinted-only (none-in-budget (h .0) (h .1))))
     where
+      none-in-budget : min < max → NoneGood s (max - min + 1) budget → Uinted s min max budget (refused outOfBudget)
+      none-in-budget l f = short (omega arith) (out-of-budget (omega arith) f)
+
       only-if : {o : Outcome} → Uinted s min max budget o → o .refusal ≡ outOfBudget → (min < max) × NoneGood s (max - min + 1) budget
       only-if (wrong-order h) e = absurd (omega arith)
       only-if (drawn h d) e = absurd (omega arith)
       only-if (short h (out-of-budget p f)) e = (omega arith, f)
 
-  pub uint-between : WordSized s → uintBy s min max budget .refusal ≡ answered → (min ≤ uintBy s min max budget .value) × (uintBy s min max budget .value ≤ max)
+  pub uint-between : WordSized s → uintBy s min max budget .refusal ≡ answered
+      → (min ≤ uintBy s min max budget .value) × (uintBy s min max budget .value ≤ max)
   uint-between sized = go uinted-is
     where
       go : {o : Outcome} → Uinted s min max budget o → o .refusal ≡ answered → (min ≤ o .value) × (o .value ≤ max)
@@ -126,7 +137,7 @@ pub data Inted (s : Words) (min max : ℤ) (budget : ℕ) : IntOutcome → Type 
 
 module _ (s : Words) (min max : ℤ) (budget : ℕ) where
   pub inted-only : {o : IntOutcome} → Inted s min max budget o → intBy s min max budget ≡ o
-  unfolding countedFrom
+  unfolding countedFrom signedBy workedOn
   inted-only (wrong-order h) = int-order s min max budget h
   inted-only (drawn h d) = int-drawn s min max budget h ∙ ap (countedFrom min) (spanned-only d)
   inted-only (short h d) = int-drawn s min max budget h ∙ ap (countedFrom min) (spanned-only d)
@@ -165,7 +176,8 @@ module _ (s : Words) (min max : ℤ) (budget : ℕ) where
       only-if (drawn h d) e = absurd (omega arith)
       only-if (short h (out-of-budget p f)) e = (h, p, f)
 
-  pub int-between : WordSized s → intBy s min max budget .refusal ≡ answered → (min ≤ℤ intBy s min max budget .value) × (intBy s min max budget .value ≤ℤ max)
+  pub int-between : WordSized s → intBy s min max budget .refusal ≡ answered
+      → (min ≤ℤ intBy s min max budget .value) × (intBy s min max budget .value ≤ℤ max)
   int-between sized = go inted-is
     where
       go : {o : IntOutcome} → Inted s min max budget o → o .refusal ≡ answered → (min ≤ℤ o .value) × (o .value ≤ℤ max)

@@ -5,9 +5,11 @@ use lib.Dec.{ltb, eqb}
 use lib.IntN.{ℤ, pos, _+ℤ_}
 use lib.Signed.{ltZ}
 use Rattle.words.specs.Refusal.{answered, order, outOfBudget}
-use Rattle.words.specs.Draw.{Words, Outcome, refused, gives, boundedBy}
-use Rattle.signed.specs.Signed.{gap}
-use Rattle.bounded.specs.Ranges.{raised}
+use Rattle.words.specs.declared.outcome.Outcome.{Outcome}
+use Rattle.words.specs.Draw.{Words, refused, gives, boundedBy}
+use Rattle.words.specs.Outcomes.{workedOn, raised}
+use Rattle.signed.specs.Signed.{wrappedSum, gap}
+use Rattle.spans.specs.declared.counting.IntOutcome.{IntOutcome}
 
 -- one raw word, which budget 0 does not allow
 unfoldable pub rawBy : Words → ℕ → Outcome
@@ -24,11 +26,7 @@ spanBy s last budget =
 unfoldable pub uintBy : Words → ℕ → ℕ → ℕ → Outcome
 uintBy s min max budget = cond (ltb max min) (refused order) (raised min (spanBy s (max - min) budget))
 
--- What `int` tells: as an outcome, with a signed value.
-pub record IntOutcome : Type 0 where
-  pub refusal : ℕ
-  pub value : ℤ
-  pub used : ℕ
+-- ---- with a signed value: what `int` tells is an `IntOutcome`, the code's own
 
 abbrev pub intRefused : ℕ → IntOutcome
 intRefused number = record { refusal = number; value = pos 0; used = 0 }
@@ -36,9 +34,17 @@ intRefused number = record { refusal = number; value = pos 0; used = 0 }
 abbrev pub intGives : ℤ → ℕ → IntOutcome
 intGives v n = record { refusal = answered; value = v; used = n }
 
--- an answer counted from min, as integers; a refusal has value 0
+-- an outcome whose value is read as f says; a refusal has value 0
+unfoldable pub signedBy : (ℕ → ℤ) → Outcome → IntOutcome
+signedBy f o = record { refusal = o .refusal; value = workedOn f (pos 0) o; used = o .used }
+
+-- an answer counted from min, as integers,
 unfoldable pub countedFrom : ℤ → Outcome → IntOutcome
-countedFrom min o = record { refusal = o .refusal; value = cond (eqb (o .refusal) answered) (min +ℤ pos (o .value)) (pos 0); used = o .used }
+countedFrom min = signedBy (λ v. min +ℤ pos v)
+
+-- and as code of 32 bits counts: added modulo 2^32 and read back as signed
+unfoldable pub countedModulo : ℤ → Outcome → IntOutcome
+countedModulo min = signedBy (λ v. wrappedSum 32 min v)
 
 -- `int` and `range`: from min up to max, signed; "min > max" is refused
 unfoldable pub intBy : Words → ℤ → ℤ → ℕ → IntOutcome

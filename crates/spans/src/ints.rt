@@ -1,9 +1,10 @@
-// Signed numbers between two ends, both included. The span is worked out in 64 bits; what is drawn is added modulo 2^32 and read back as signed.
+// Signed numbers between two ends, both included. The span is worked out in 64 bits; what is drawn is counted from the lower end.
 ghost use mathlib.Core.Path.{_≡_};
-ghost use Rattle.spans.specs.IntAnswers.{countedAnswer, joinedInt};
+ghost use Rattle.spans.specs.IntAnswers.{intAnswerIn, joinedInt};
 ghost use Rattle.spans.specs.Promises.{IntInPromise, IntPromise, RangeInPromise, RangePromise};
+use crate::counting::IntOutcome;
+use crate::counting::counted;
 use crate::span::spanned_in;
-use bounded::EngineAnswer;
 use random::Engine;
 use random::Random;
 
@@ -23,25 +24,15 @@ pub struct IntEngineAnswer {
     pub used: u32,
 }
 
-// An answer counted from min; a refusal keeps value 0.
-fn counted(min: i32, a: EngineAnswer) -> IntEngineAnswer
-    ensures { λ r. ⌜ r ≡ countedAnswer min a ⌝ }
+// The answer of an outcome: with the engine after its words.
+fn int_answer_in(o: IntOutcome, next: Engine) -> IntEngineAnswer
+    ensures { λ r. ⌜ r ≡ intAnswerIn o next ⌝ }
 {
-    let next = a.next;
-    if a.refusal == words::refusal::ANSWERED {
-        let value = signed::wrapping_add_signed(min, a.value);
-        return IntEngineAnswer {
-            refusal: a.refusal,
-            value,
-            used: a.used,
-            next,
-        };
-    }
     IntEngineAnswer {
-        refusal: a.refusal,
-        value: 0,
-        used: a.used,
         next,
+        refusal: o.refusal,
+        value: o.value,
+        used: o.used,
     }
 }
 
@@ -64,9 +55,11 @@ pub fn int_in(e: Engine, mt: &mut [u32; 624], min: i32, max: i32, budget: u32) -
     ensures { λ a. ⌜ IntInPromise e (now (mt .entry)) min max budget a (now (mt .exit)) ⌝ }
 {
     if max < min {
-        return counted(min, bounded::refuse_in(words::refusal::ORDER, e));
+        return int_answer_in(counted(min, words::refused(words::refusal::ORDER)), e);
     }
-    counted(min, spanned_in(e, mt, signed::span_of(min, max), budget))
+    let a = spanned_in(e, mt, signed::span_of(min, max), budget);
+    let next = a.next;
+    int_answer_in(counted(min, bounded::outcome_of(a)), next)
 }
 
 // A number from min up to max.

@@ -13,7 +13,9 @@ pub fn uint_in(e: Engine, mt: &mut [u32; 624], min: u32, max: u32, budget: u32) 
     if max < min {
         return bounded::refuse_in(words::refusal::ORDER, e);
     }
-    bounded::raise_in(min, spanned_in(e, mt, max - min, budget))
+    let a = spanned_in(e, mt, max - min, budget);
+    let next = a.next;
+    bounded::answer_in(words::raised(min, bounded::outcome_of(a)), next)
 }
 
 // A number from min up to max.

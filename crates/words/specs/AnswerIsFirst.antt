@@ -4,7 +4,8 @@ use mathlib.Core.Path.{_≡_, refl}
 use Prim.Native.Nat.{ℕ, _+_, _*_, _/_, _^_}
 use native.Mathlib.Omega.{arith}
 use Rattle.words.specs.Refusal.{answered}
-use Rattle.words.specs.Draw.{Words, Outcome, gives, boundedBy}
+use Rattle.words.specs.declared.outcome.Outcome.{Outcome}
+use Rattle.words.specs.Draw.{Words, gives, boundedBy}
 use Rattle.words.specs.GoodWord.{FirstGood, passes-positive}
 use Rattle.words.specs.OneOutcome.{Bounded, zero-range, answers, out-of-budget, bounded-is, bounded-only}
 

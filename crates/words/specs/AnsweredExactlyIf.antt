@@ -5,7 +5,8 @@ use mathlib.Core.Logic.{_↔_}
 use Prim.Native.Nat.{ℕ, _<_}
 use native.Mathlib.Omega.{arith}
 use Rattle.words.specs.Refusal.{answered}
-use Rattle.words.specs.Draw.{Words, Outcome, boundedBy}
+use Rattle.words.specs.declared.outcome.Outcome.{Outcome}
+use Rattle.words.specs.Draw.{Words, boundedBy}
 use Rattle.words.specs.GoodWord.{Passes}
 use Rattle.words.specs.OneOutcome.{Bounded, zero-range, answers, out-of-budget, bounded-is}
 

@@ -40,6 +40,7 @@ drawing-below sized done j h = absurd (omega arith)
 drawing-below sized (settled f rest) zero h = first-below sized f
 drawing-below sized (settled {k = k} f rest) (suc j) h = drawing-below (λ i. sized (k + 1 + i)) rest j (omega arith)
 
-pub draws-below : (s : Words) (rs : List ℕ) (budget : ℕ) {vs : List ℕ} {n : ℕ} → WordSized s → draws s rs budget ≡ all vs n → EachBelow vs rs
+pub draws-below : (s : Words) (rs : List ℕ) (budget : ℕ) {vs : List ℕ} {n : ℕ} → WordSized s → draws s rs budget ≡ all vs n
+    → EachBelow vs rs
 draws-below s rs budget sized e =
     record { as-many = as-many-values s rs budget e; below = drawing-below sized (rw e at (drawing-is s rs budget)) }

@@ -6,7 +6,8 @@ use mathlib.Core.List.{List, [], _∷_}
 use Prim.Native.Nat.{ℕ, _+_, _*_, _%_, _^_}
 use lib.Dec.{eqb, lit<}
 use Rattle.words.specs.Refusal.{outOfBudget}
-use Rattle.words.specs.Draw.{listed, good, quotient, first, firstGood, Outcome, gives, refused, boundedBy}
+use Rattle.words.specs.declared.outcome.Outcome.{Outcome}
+use Rattle.words.specs.Draw.{listed, good, quotient, first, firstGood, gives, refused, boundedBy}
 use Rattle.words.specs.Count.{count}
 use Rattle.words.specs.EqualShares.{equal-shares}
 use Rattle.words.specs.Table.{Row, Holds, end, _&_}

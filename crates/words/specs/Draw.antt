@@ -5,6 +5,7 @@ use mathlib.Core.List.{List, [], _∷_}
 use Prim.Native.Nat.{ℕ, zero, suc, _+_, _-_, _*_, _/_, _%_, _^_}
 use lib.Dec.{leb, eqb}
 use lib.ListN.{getD}
+use Rattle.words.specs.declared.outcome.Outcome.{Outcome}
 use Rattle.words.specs.Refusal.{answered, zeroRange, outOfBudget}
 
 -- A sequence of words: the next one is at place 0.
@@ -41,12 +42,8 @@ first test (suc n) i = elim (test i) [ true ↦ at i | false ↦ first test n (i
 unfoldable pub firstGood : Words → ℕ → ℕ → Found
 firstGood s r budget = first (λ k. good r (s k)) budget 0
 
--- What a call tells: its refusal's number (0 where it is answered), its value, and the words used. The next generator is always the old one
--- after `used` words, so an outcome names no generator.
-pub record Outcome : Type 0 where
-  pub refusal : ℕ
-  pub value : ℕ
-  pub used : ℕ
+-- What a call tells is an `Outcome`, the code's own: its refusal's number (0 where it is answered), its value, and the words used. The next
+-- generator is always the old one after `used` words, so an outcome names no generator.
 
 -- "Every refusal gives its number, value 0 and 0 words used" (document 01).
 abbrev pub refused : ℕ → Outcome
@@ -80,7 +77,10 @@ more v n (short m) = short (m + 1)
 unfoldable pub draws : Words → List ℕ → ℕ → Drawn
 draws s [] budget = all [] 0
 draws s (r ∷ rs) budget =
-    elim (firstGood s r budget) [ at k ↦ more (quotient r (s k)) (k + 1) (draws (after (k + 1) s) rs (budget - (k + 1))) | nowhere ↦ short 0 ]
+    elim (firstGood s r budget) [
+      | at k ↦ more (quotient r (s k)) (k + 1) (draws (after (k + 1) s) rs (budget - (k + 1)))
+      | nowhere ↦ short 0
+    ]
 
 -- The outcome of a call that makes these draws and works its value out of theirs.
 abbrev pub outcomeOf : (List ℕ → ℕ) → Drawn → Outcome

@@ -56,7 +56,8 @@ draw-after-draw s (r ∷ rs) qs budget =
         let b : budget - (k + 1) - n ≡ budget - (k + 1 + n) = omega arith in
         rw (b, after-after (k + 1) n s)
 
-    go : Looked s r budget → Rest → draws s (r ∷ (rs ++ qs)) budget ≡ andThen (draws s (r ∷ rs) budget) (λ n. draws (after n s) qs (budget - n))
+    go : Looked s r budget → Rest
+        → draws s (r ∷ (rs ++ qs)) budget ≡ andThen (draws s (r ∷ rs) budget) (λ n. draws (after n s) qs (budget - n))
     go (some-good k f) rest =
         rw (draws-settled s r (rs ++ qs) budget f, draws-settled s r rs budget f, rest k)
         (more-then (quotient r (s k)) (k + 1) (draws (after (k + 1) s) rs (budget - (k + 1)))

@@ -8,7 +8,8 @@ use lib.Dec.{leb, eqb}
 use borrow.Author.Tests.{eq-eqb, ne-eqb, leb-true, leb-false}
 use Rattle.words.specs.Refusal.{outOfBudget}
 use Rattle.words.specs.Draw.{Words, good, quotient, Found, at, nowhere, firstGood, refused, gives, boundedBy}
-use Rattle.words.specs.GoodWord.{Fails, good-passes, bad-fails, fails-for-zero, FirstGood, NoneGood, Looked, some-good, none-good, look, first-found, none-found}
+use Rattle.words.specs.GoodWord.{Fails, good-passes, bad-fails, fails-for-zero, FirstGood, NoneGood, Looked, some-good}
+use Rattle.words.specs.GoodWord.{none-good, look, first-found, none-found}
 use Rattle.words.specs.OneOutcome.{out-of-budget, bounded-only}
 use Rattle.words.specs.AnswerIsFirst.{first-is-answer}
 use Rattle.words.specs.BelowItsBound.{WordSized, first-below}

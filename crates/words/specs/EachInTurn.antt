@@ -51,5 +51,6 @@ each-in-turn s rs r qs budget {vs} {n} e = go (draws s rs budget) refl
 
         look-here : Looked (after m s) r (budget - m) → InTurn s rs r budget vs
         look-here (some-good k f) =
-            settled-here us m before k f (draws (after (k + 1) (after m s)) qs (budget - m - (k + 1))) (rw (draws-settled (after m s) r qs (budget - m) f) at here)
+            let rest = draws (after (k + 1) (after m s)) qs (budget - m - (k + 1)) in
+            settled-here us m before k f rest (rw (draws-settled (after m s) r qs (budget - m) f) at here)
         look-here (none-good f) = absurd (not-short (rw (draws-short (after m s) r qs (budget - m) f) at here))

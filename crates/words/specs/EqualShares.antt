@@ -3,7 +3,8 @@ use mathlib.Core.Path.{_≡_, refl, sym, _∙_, ap, fun-ext}
 use mathlib.Core.Bool.{Bool, true, false, _&&_, cond, and-eq-true-iff}
 use Prim.Native.Nat.{ℕ, zero, suc, _+_, _-_, _*_, _/_, _%_, _^_, _≤_, _<_}
 use native.Mathlib.Omega.{arith}
-use native.Mathlib.Nat.{add-mul, one-mul, mul-comm, mul-le-mul-right, div-add-mod', div-lt-iff-lt-mul, lt-div-mul-add, div-mul-le-self, div-eq-of-lt-le, mod-lt}
+use native.Mathlib.Nat.{add-mul, one-mul, mul-comm, mul-le-mul-right, div-add-mod', div-lt-iff-lt-mul, lt-div-mul-add}
+use native.Mathlib.Nat.{div-mul-le-self, div-eq-of-lt-le, mod-lt}
 use borrow.Author.Tests.{leb-true, leb-false, ltb-true, ltb-false, eqb-true, le-leb, lt-ltb, eq-eqb}
 use lib.Dec.{leb, ltb, eqb, lit<}
 use Rattle.words.specs.Draw.{good, quotient}

@@ -61,7 +61,14 @@ module _ (test : ℕ → Bool) where
     where
       go : (b : Bool) → test i ≡ b → Searched test n (i + 1) (first test n (i + 1)) → Searched test (suc n) i (first test (suc n) i)
       go true p s =
-          rw (first-stops n i p) (hit i (record { from = omega arith; before-end = omega arith; passes = p; missed = λ j a b. absurd (omega arith) }))
+          rw (first-stops n i p)
+          (hit i
+          (record {
+            from = omega arith;
+            before-end = omega arith;
+            passes = p;
+            missed = λ j a b. absurd (omega arith);
+          }))
       go false p s = rw (first-goes-on n i p) (onward n i p s)
 
   clash : (k : ℕ) → test k ≡ true → test k ≡ false → ⊥

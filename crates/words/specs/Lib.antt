@@ -1,8 +1,9 @@
 -- What the crate says of draws, in the order in which to read it.
 
--- What a reader must believe: the refusals' numbers, and drawing below a bound and below a list of bounds.
+-- What a reader must believe: the refusals' numbers, drawing below a bound and below a list of bounds, and what is done to a value drawn.
 pub mod Refusal
 pub mod Draw
+pub mod Outcomes
 -- The test of a word in plain numbers, and the search for the first that passes it.
 pub mod FirstPlace
 pub mod GoodWord
@@ -25,11 +26,12 @@ pub mod BelowItsBound
 -- Every value has its share of all words.
 pub mod Count
 pub mod EqualShares
--- For code that draws: its arithmetic and its loops.
+-- For code that draws: its arithmetic, its loops, and what it does to a value drawn.
 pub mod Product
 pub mod Threshold
 pub mod DrawLoop
 pub mod DrawsLoop
+pub mod OutcomeLaws
 -- The bench examples.
 pub mod Table
 pub mod Bench

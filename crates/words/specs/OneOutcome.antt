@@ -4,7 +4,8 @@ use Prim.Native.Nat.{ℕ, zero, suc, _+_, _<_}
 use native.Mathlib.Omega.{arith}
 use borrow.Author.Tests.{eq-eqb, ne-eqb}
 use Rattle.words.specs.Refusal.{zeroRange, outOfBudget}
-use Rattle.words.specs.Draw.{Words, quotient, firstGood, Outcome, refused, gives, settledBy, boundedBy}
+use Rattle.words.specs.declared.outcome.Outcome.{Outcome}
+use Rattle.words.specs.Draw.{Words, quotient, firstGood, refused, gives, settledBy, boundedBy}
 use Rattle.words.specs.GoodWord.{FirstGood, NoneGood, Looked, some-good, none-good, look, first-found, none-found}
 
 -- Which outcomes a draw below r with this budget may have (the order, demand 3; document 01, refusals 1 and 8).

@@ -1,11 +1,12 @@
--- When a draw below r is refused, and with which number (document 01, "When the unit says no"): with 1 exactly if r is 0, and with 8 exactly
--- if r is not 0 and none of the next B words is good.
+-- When a draw below r is refused, and with which number (document 01, "When the unit says no"): with 1 exactly if r is 0, and with 8
+-- exactly if r is not 0 and none of the next B words is good.
 use mathlib.Core.Path.{_≡_, refl}
 use mathlib.Core.Logic.{_↔_}
 use Prim.Native.Nat.{ℕ, _<_}
 use native.Mathlib.Omega.{arith}
 use Rattle.words.specs.Refusal.{zeroRange, outOfBudget}
-use Rattle.words.specs.Draw.{Words, Outcome, boundedBy}
+use Rattle.words.specs.declared.outcome.Outcome.{Outcome}
+use Rattle.words.specs.Draw.{Words, boundedBy}
 use Rattle.words.specs.GoodWord.{NoneGood}
 use Rattle.words.specs.OneOutcome.{Bounded, zero-range, answers, out-of-budget, bounded-is}
 

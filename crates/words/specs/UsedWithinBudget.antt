@@ -3,7 +3,8 @@ use mathlib.Core.Path.{_≡_}
 use mathlib.Core.List.{List}
 use Prim.Native.Nat.{ℕ, _≤_}
 use native.Mathlib.Omega.{arith}
-use Rattle.words.specs.Draw.{Words, Outcome, boundedBy, all, draws}
+use Rattle.words.specs.declared.outcome.Outcome.{Outcome}
+use Rattle.words.specs.Draw.{Words, boundedBy, all, draws}
 use Rattle.words.specs.OneOutcome.{Bounded, zero-range, answers, out-of-budget, bounded-is}
 use Rattle.words.specs.OneOutcomeOfDraws.{Drawing, done, settled, drawing-is}
 

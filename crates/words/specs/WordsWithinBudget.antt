@@ -4,7 +4,8 @@ use mathlib.Core.Path.{_≡_, sym}
 use mathlib.Core.List.{List}
 use Prim.Native.Nat.{ℕ, _+_, _<_}
 use native.Mathlib.Omega.{arith}
-use Rattle.words.specs.Draw.{Words, Outcome, boundedBy, Drawn, draws}
+use Rattle.words.specs.declared.outcome.Outcome.{Outcome}
+use Rattle.words.specs.Draw.{Words, boundedBy, Drawn, draws}
 use Rattle.words.specs.GoodWord.{FirstGood, NoneGood}
 use Rattle.words.specs.OneOutcome.{Bounded, zero-range, answers, out-of-budget, bounded-is, bounded-only}
 use Rattle.words.specs.OneOutcomeOfDraws.{Drawing, done, settled, later-short, now-short, drawing-is, drawing-only}

@@ -1,7 +1,13 @@
-// The arithmetic of a draw below r, for code over any source of words. Every function is total.
+// Drawing for code over any source of words: the arithmetic of a draw below r, and what a draw tells. Every function is total.
 ghost use Rattle.words.specs.Promises.{ProductPromise, ThresholdPromise, IsGoodPromise, QuotientPromise};
 
+mod outcome;
 pub mod refusal;
+
+pub use outcome::Outcome;
+pub use outcome::gives;
+pub use outcome::raised;
+pub use outcome::refused;
 
 // The whole product of a word and r.
 pub fn product(w: u32, r: u32) -> u64

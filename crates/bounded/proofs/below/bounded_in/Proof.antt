@@ -3,9 +3,12 @@ use mathlib.Core.Path.{_∙_}
 use native.Mathlib.Omega.{arith}
 use borrow.Author.Needs.{needs}
 use Rattle.bounded.specs.AnswerLaws.{draws-first}
-use Rattle.random.specs.ReadyLaws.{drawn-below}
+use Rattle.random.specs.ReadyLaws.{drawn-surely}
 use Rattle.bounded.proofs.below.bounded_in.Statement.{statement}
 use Rattle.bounded.proofs.below.bounded_in.Tie as tie
+
+surely-ready-requires : tie.Need-surely-ready-requires
+surely-ready-requires c κs = search needs
 
 next-ready-requires : tie.Need-next-ready-requires
 next-ready-requires c κs = search needs
@@ -21,12 +24,13 @@ accept-in-requires c κs = search needs
 
 returns : tie.Need-returns
 returns c =
-    let w = c .before .before .before .before .before in
-    let test = c .before .before .before in
-    let position = w .before .before .if2 .taken in
-    draws-first _ _ _ (w .before .before .before .before .if1 .taken) (w .next-ready .ensures ∙ drawn-below _ position)
-    (omega (arith, w .next-ready .ok)) (test .before .is-good .ensures) (test .if3 .taken) (c .before .quotient .ensures)
-    (c .accept-in .ensures)
+    let good = c .before .before .before in
+    let word = good .before .before .next-ready in
+    let ready = good .before .before .before .before in
+    let asked = ready .before in
+    draws-first _ _ _ (asked .before .if1 .taken)
+    (word .ensures ∙ drawn-surely _ _ (asked .surely-ready .ensures) (ready .if2 .taken)) (omega (arith, word .ok))
+    (good .before .is-good .ensures) (good .if3 .taken) (c .before .quotient .ensures) (c .accept-in .ensures)
 
 settle-requires : tie.Need-settle-requires
 settle-requires c κs = search needs
@@ -44,6 +48,7 @@ pub bounded-in-spec : {M : Type 1} → statement M
 bounded-in-spec =
     tie.close
     (tie.spec
+    surely-ready-requires
     next-ready-requires
     is-good-requires
     quotient-requires

@@ -30,18 +30,21 @@ accept-in-requires c κs = search needs
 
 returns-3 : tie.Need-returns-3
 returns-3 c =
-    let d = c .before .before .before .draw-in in
-    draws-found _ _ (d .ensures .0) refl (c .before .before .if3 .taken) (d .ensures .1) (c .accept-in .ensures)
+    let found = c .before .before in
+    let tried = found .before .draw-in .ensures in
+    draws-found _ _ (tried .0) refl (found .if3 .taken) (tried .1) (c .accept-in .ensures)
 
 refuse-in-requires-2 : tie.Need-refuse-in-requires-2
 refuse-in-requires-2 c κs = search needs
 
 returns-4 : tie.Need-returns-4
 returns-4 c =
-    let d = c .before .before .draw-in in
-    let k = c .before .before .before .before in
-    let kept = others-keep _ _ _ (sym (k .before .on-table .ensures) ∙ k .if2 .left) (d .ensures .0 .moved) in
-    rw kept (draws-short _ _ (d .ensures .0) (omega (arith, k .before .before .if1 .left)) (c .before .if3 .left) (c .refuse-in2 .ensures))
+    let none = c .before in
+    let tried = none .before .draw-in .ensures in
+    let other = none .before .before .before in
+    let kept = others-keep _ _ _ (sym (other .before .on-table .ensures) ∙ other .if2 .left) (tried .0 .moved) in
+    let some = other .before .before .if1 .left in
+    rw kept (draws-short _ _ (tried .0) (omega (arith, some)) (none .if3 .left) (c .refuse-in2 .ensures))
 
 pub settle-spec : {M : Type 1} → statement M
 settle-spec =

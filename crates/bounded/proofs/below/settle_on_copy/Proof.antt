@@ -13,16 +13,19 @@ accept-in-requires c κs = search needs
 
 returns : tie.Need-returns
 returns c =
-    let d = c .before .before .before .draw-in in
-    draws-found _ _ (d .ensures .0) refl (c .before .before .if1 .taken) (d .ensures .1) (c .accept-in .ensures)
+    let found = c .before .before in
+    let tried = found .before .draw-in .ensures in
+    draws-found _ _ (tried .0) refl (found .if1 .taken) (tried .1) (c .accept-in .ensures)
 
 refuse-in-requires : tie.Need-refuse-in-requires
 refuse-in-requires c κs = search needs
 
 returns-2 : tie.Need-returns-2
 returns-2 c =
-    let d = c .before .before .draw-in in
-    draws-short _ _ (d .ensures .0) (c .before .before .before .before .before .pre) (c .before .if1 .left) (c .refuse-in .ensures)
+    let none = c .before in
+    let drawn = none .before in
+    let positive = drawn .before .before .before .pre in
+    draws-short _ _ (drawn .draw-in .ensures .0) positive (none .if1 .left) (c .refuse-in .ensures)
 
 pub settle-on-copy-spec : {M : Type 1} → statement M
 settle-on-copy-spec =

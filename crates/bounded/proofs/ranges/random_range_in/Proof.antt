@@ -18,15 +18,23 @@ sub-bounded-in c = search needs
 bounded-in-requires : tie.Need-bounded-in-requires
 bounded-in-requires c κs = search needs
 
-raise-in-requires : tie.Need-raise-in-requires
-raise-in-requires c κs = search needs
+outcome-of-requires : tie.Need-outcome-of-requires
+outcome-of-requires c κs = search needs
+
+raised-requires : tie.Need-raised-requires
+raised-requires c κs = search needs
+
+answer-in-requires : tie.Need-answer-in-requires
+answer-in-requires c κs = search needs
 
 returns-2 : tie.Need-returns-2
 returns-2 c =
-    let d = c .before in
-    let ordered = d .before .before .if1 .left in
-    rw (c .raise-in .ensures, range-drawn _ _ _ _ ordered)
-    (raised-answers _ _ _ (d .bounded-in .ensures .0) (λ z. omega (arith, d .bounded-in .ensures .1 z, d .before .before .before .fits .max)))
+    let told = c .before .before in
+    let drawn = told .before .before in
+    let start = drawn .before .before in
+    rw (range-drawn _ _ _ _ (start .if1 .left))
+    (raised-answers _ _ _ (drawn .bounded-in .ensures .0) (λ z. omega (arith, drawn .bounded-in .ensures .1 z, start .before .fits .max))
+    (told .outcome-of .ensures) (c .before .raised .ensures) (c .answer-in .ensures))
 
 pub random-range-in-spec : {M : Type 1} → statement M
 random-range-in-spec =
@@ -36,5 +44,7 @@ random-range-in-spec =
     returns
     sub-bounded-in
     bounded-in-requires
-    raise-in-requires
+    outcome-of-requires
+    raised-requires
+    answer-in-requires
     returns-2)

@@ -14,7 +14,8 @@ signed-u64-requires c κs = search needs
 
 returns : tie.Need-returns
 returns c =
-    rw (result-read w64 _ (c .signed-u64 .ok), c .signed-u64 .ensures) (i64-is _ (c .before .before .u64 .result) (c .before .before .u64 .ensures))
+    let word = c .before .before .u64 in
+    rw (result-read w64 _ (c .signed-u64 .ok), c .signed-u64 .ensures) (i64-is _ (word .result) (word .ensures))
 
 pub i64-spec : {M : Type 1} → statement M
 i64-spec = tie.close (tie.spec u64-requires signed-u64-requires returns)

@@ -14,8 +14,9 @@ with-table-requires c κs = search needs
 
 returns : tie.Need-returns
 returns c =
-    let drawn = rw (c .before .before .before .before .before .engine-of .ensures) at (c .before .before .before .pseudo-in .ensures) in
-    rw (c .with-table .ensures) drawn
+    let drawn = c .before .before .before in
+    let engine = drawn .before .before .engine-of .ensures in
+    rw (c .with-table .ensures) (rw engine at (drawn .pseudo-in .ensures))
 
 pub pseudo-spec : {M : Type 1} → statement M
 pseudo-spec =

@@ -14,8 +14,9 @@ with-table-requires c κs = search needs
 
 returns : tie.Need-returns
 returns c =
-    let drawn = rw (c .before .before .before .before .before .engine-of .ensures) at (c .before .before .before .next-u32 .ensures) in
-    rw (c .with-table .ensures) drawn
+    let drawn = c .before .before .before in
+    let engine = drawn .before .before .engine-of .ensures in
+    rw (c .with-table .ensures) (rw engine at (drawn .next-u32 .ensures))
 
 pub rand-spec : {M : Type 1} → statement M
 rand-spec = tie.close (tie.spec engine-of-requires next-u32-requires with-table-requires returns)

@@ -14,8 +14,9 @@ with-table-requires c κs = search needs
 
 returns : tie.Need-returns
 returns c =
-    let drawn = rw (c .before .before .before .before .before .engine-of .ensures) at (c .before .before .before .next-u64 .ensures) in
-    rw (c .with-table .ensures) drawn
+    let drawn = c .before .before .before in
+    let engine = drawn .before .before .engine-of .ensures in
+    rw (c .with-table .ensures) (rw engine at (drawn .next-u64 .ensures))
 
 pub u64-spec : {M : Type 1} → statement M
 u64-spec = tie.close (tie.spec engine-of-requires next-u64-requires with-table-requires returns)

@@ -4,9 +4,14 @@ use borrow.Author.Needs.{needs}
 use Rattle.mersenne_twister.specs.declared.Drawn64.{Drawn64}
 use Rattle.mersenne_twister.specs.Table as twister
 use Rattle.random.specs.Generator.{gen, u64Of, word64Of, later, step}
+use Rattle.random.specs.declared.by_value.Word64.{Word64}
 use Rattle.random.specs.declared.backend.Backend.the-variants.{MersenneTwister}
 use Rattle.random.proofs.lent.next_u64.Statement.{statement}
 use Rattle.random.proofs.lent.next_u64.Tie as tie
+
+-- the twister's draw, as the facade's
+abbrev asWord64 : Drawn64 → Word64
+asWord64 d = record { word = d .word; next = gen MersenneTwister (d .next) }
 
 enum-known-backend : tie.Need-enum-known-backend
 enum-known-backend c = search needs
@@ -53,7 +58,7 @@ returns-2 : tie.Need-returns-2
 unfolding u64Of word64Of later step twister.drawn64
 returns-2 c =
     let is = c .before .before .before .enum-told .given .1 in
-    rw (is, c .answer642 .ensures) (ap (λ (d : Drawn64). record { word = d .word; next = gen MersenneTwister (d .next) }) (c .before .next-u64-in .ensures))
+    rw (is, c .answer642 .ensures) (ap asWord64 (c .before .next-u64-in .ensures))
 
 returns-3 : tie.Need-returns-3
 unfolding u64Of word64Of later step

@@ -31,7 +31,9 @@ loop-again : tie.Need-loop-again Inv-loop μ-loop
 loop-again c =
     let loop = c .before .before .before .before .before .loop in
     let drawn = c .before .before .next-u32 in
-    (omega arith, xored-more _ (loop .n) (loop .word) (joinedWith (loop .next) (loop .mt)) (joinedWord (drawn .result) (drawn .last .1 .0)) (loop .inv .1) (drawn .ensures))
+    let here = joinedWith (loop .next) (loop .mt) in
+    let word = joinedWord (drawn .result) (drawn .last .1 .0) in
+    (omega arith, xored-more _ (loop .n) (loop .word) here word (loop .inv .1) (drawn .ensures))
 
 returns : tie.Need-returns Inv-loop μ-loop
 unfolding pseudoOf

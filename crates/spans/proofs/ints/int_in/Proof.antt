@@ -6,17 +6,23 @@ use Rattle.spans.specs.SpanLaws.{int-order, int-drawn}
 use Rattle.spans.proofs.ints.int_in.Statement.{statement}
 use Rattle.spans.proofs.ints.int_in.Tie as tie
 
-refuse-in-requires : tie.Need-refuse-in-requires
-refuse-in-requires c κs = search needs
+refused-requires : tie.Need-refused-requires
+refused-requires c κs = search needs
 
 counted-requires : tie.Need-counted-requires
 counted-requires c κs = search needs
 
+int-answer-in-requires : tie.Need-int-answer-in-requires
+int-answer-in-requires c κs = search needs
+
 returns : tie.Need-returns
 returns c =
-    let f = c .before .before .before .fits in
-    rw (c .counted .ensures, arg-read (f .min), int-order _ _ _ _ (test-read (f .min) (f .max) (c .before .before .if1 .taken)))
-    (counted-refused _ _ (f .min) (c .before .refuse-in .ensures))
+    let counted = c .before in
+    let wrong = counted .before .before in
+    let f = wrong .before .fits in
+    rw (int-order _ _ _ _ (test-read (f .min) (f .max) (wrong .if1 .taken)))
+    (counted-refused _ _ (f .min) (counted .before .refused .ensures) (rw (arg-read (f .min)) at (counted .counted .ensures))
+    (c .int-answer-in .ensures))
 
 span-of-requires : tie.Need-span-of-requires
 span-of-requires c κs = search needs
@@ -24,25 +30,39 @@ span-of-requires c κs = search needs
 spanned-in-requires : tie.Need-spanned-in-requires
 spanned-in-requires c κs = search needs
 
+outcome-of-requires : tie.Need-outcome-of-requires
+outcome-of-requires c κs = search needs
+
 counted-requires-2 : tie.Need-counted-requires-2
 counted-requires-2 c κs = search needs
 
+int-answer-in-requires-2 : tie.Need-int-answer-in-requires-2
+int-answer-in-requires-2 c κs = search needs
+
 returns-2 : tie.Need-returns-2
 returns-2 c =
-    let d = c .before in
-    let f = d .before .before .before .before .fits in
-    let span = span-read (f .min) (f .max) (d .before .span-of .ensures) in
-    rw (c .counted2 .ensures, arg-read (f .min), int-drawn _ _ _ _ (test-read (f .min) (f .max) (d .before .before .before .if1 .left)))
-    (counted-answers _ _ (f .min) (f .max) (rw span at (d .spanned-in .ensures .0)) (rw span at (d .spanned-in .ensures .1)))
+    let counted = c .before in
+    let told = counted .before in
+    let drawn = told .before .before in
+    let ordered = drawn .before .before .before in
+    let f = ordered .before .fits in
+    let span = span-read (f .min) (f .max) (drawn .before .span-of .ensures) in
+    let answer = rw span at (drawn .spanned-in .ensures) in
+    rw (int-drawn _ _ _ _ (test-read (f .min) (f .max) (ordered .if1 .left)))
+    (counted-answers _ _ (f .min) (f .max) (answer .0) (answer .1) (told .outcome-of .ensures)
+    (rw (arg-read (f .min)) at (counted .counted2 .ensures)) (c .int-answer-in2 .ensures))
 
 pub int-in-spec : {M : Type 1} → statement M
 int-in-spec =
     tie.close
     (tie.spec
-    refuse-in-requires
+    refused-requires
     counted-requires
+    int-answer-in-requires
     returns
     span-of-requires
     spanned-in-requires
+    outcome-of-requires
     counted-requires-2
+    int-answer-in-requires-2
     returns-2)

@@ -3,7 +3,7 @@ use mathlib.Core.Path.{sym, _∙_, ap}
 use native.Mathlib.Omega.{arith}
 use borrow.Author.Needs.{needs}
 use Rattle.random.specs.GeneratorLaws.{later-none}
-use Rattle.bounded.specs.Answers.{answered}
+use Rattle.bounded.specs.Answers.{answerFrom}
 use Rattle.bounded.specs.AnswerLaws.{accepting-answers}
 use Rattle.spans.specs.SpanLaws.{span-none, span-whole, span-part}
 use Rattle.spans.proofs.span.spanned_in.Statement.{statement}
@@ -24,7 +24,7 @@ raw-in-requires c κs = search needs
 returns-2 : tie.Need-returns-2
 returns-2 c =
     let whole = c .before .before .if2 .taken in
-    (c .raw-in .ensures ∙ ap (answered _) (sym (span-whole _ _ _ whole)), λ z. omega (arith, c .raw-in .ok))
+    (c .raw-in .ensures ∙ ap (answerFrom _) (sym (span-whole _ _ _ whole)), λ z. omega (arith, c .raw-in .ok))
 
 add-bounded-in : tie.Need-add-bounded-in
 add-bounded-in c = search needs
@@ -34,8 +34,9 @@ bounded-in-requires c κs = search needs
 
 returns-3 : tie.Need-returns-3
 returns-3 c =
-    let d = c .before .before in
-    (c .bounded-in .ensures .0 ∙ ap (answered _) (sym (span-part _ _ _ (d .before .if1 .left) (d .if2 .left))), λ z. omega (arith, c .bounded-in .ensures .1 z))
+    let part = c .before .before in
+    let drawn = c .bounded-in .ensures in
+    (drawn .0 ∙ ap (answerFrom _) (sym (span-part _ _ _ (part .before .if1 .left) (part .if2 .left))), drawn .1)
 
 pub spanned-in-spec : {M : Type 1} → statement M
 spanned-in-spec =

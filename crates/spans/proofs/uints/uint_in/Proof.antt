@@ -15,16 +15,33 @@ returns c = refusing-answers _ _ (c .refuse-in .ensures) (uint-order _ _ _ _ (c 
 spanned-in-requires : tie.Need-spanned-in-requires
 spanned-in-requires c κs = search needs
 
-raise-in-requires : tie.Need-raise-in-requires
-raise-in-requires c κs = search needs
+outcome-of-requires : tie.Need-outcome-of-requires
+outcome-of-requires c κs = search needs
+
+raised-requires : tie.Need-raised-requires
+raised-requires c κs = search needs
+
+answer-in-requires : tie.Need-answer-in-requires
+answer-in-requires c κs = search needs
 
 returns-2 : tie.Need-returns-2
 returns-2 c =
-    let d = c .before in
-    let ordered = d .before .before .if1 .left in
-    rw (c .raise-in .ensures, uint-drawn _ _ _ _ ordered)
-    (raised-answers _ _ _ (d .spanned-in .ensures .0) (λ z. omega (arith, d .spanned-in .ensures .1 z, d .before .before .before .fits .max)))
+    let told = c .before .before in
+    let drawn = told .before .before in
+    let ordered = drawn .before .before in
+    rw (uint-drawn _ _ _ _ (ordered .if1 .left))
+    (raised-answers _ _ _ (drawn .spanned-in .ensures .0)
+    (λ z. omega (arith, drawn .spanned-in .ensures .1 z, ordered .if1 .left, ordered .before .fits .max)) (told .outcome-of .ensures)
+    (c .before .raised .ensures) (c .answer-in .ensures))
 
 pub uint-in-spec : {M : Type 1} → statement M
 uint-in-spec =
-    tie.close (tie.spec refuse-in-requires returns spanned-in-requires raise-in-requires returns-2)
+    tie.close
+    (tie.spec
+    refuse-in-requires
+    returns
+    spanned-in-requires
+    outcome-of-requires
+    raised-requires
+    answer-in-requires
+    returns-2)
