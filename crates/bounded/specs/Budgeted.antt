@@ -2,17 +2,18 @@
 -- draw, or another call whose value is worked on, or one that refuses its arguments first.
 use mathlib.Core.Path.{_≡_, refl, _∙_, ap}
 use mathlib.Core.Bool.{Bool, true, false, cond}
+use mathlib.Core.List.{List}
 use Prim.Native.Nat.{ℕ, _+_, _-_, _≤_}
 use native.Mathlib.Omega.{arith}
 use lib.Dec.{leb}
 use Rattle.words.specs.Refusal.{answered, order}
 use Rattle.words.specs.declared.outcome.Outcome.{Outcome}
-use Rattle.words.specs.Draw.{Words, refused, boundedBy}
+use Rattle.words.specs.Draw.{Words, Drawn, all, short, draws, refused, boundedBy, outcomeOf}
 use Rattle.words.specs.Outcomes.{mapped, raised}
 use Rattle.words.specs.OutcomeLaws.{worked-refused, refused-whole}
 use Rattle.words.specs.OneOutcome.{Bounded, zero-range, answers, out-of-budget, bounded-is}
-use Rattle.words.specs.LargerBudget.{bounded-larger}
-use Rattle.words.specs.UsedWithinBudget.{bounded-within}
+use Rattle.words.specs.LargerBudget.{bounded-larger, call-larger}
+use Rattle.words.specs.UsedWithinBudget.{bounded-within, draws-within}
 use Rattle.random.specs.declared.backend.Random.{Random}
 use Rattle.random.specs.Generator.{wordsOf}
 use Rattle.bounded.specs.Answers.{answerFrom}
@@ -71,7 +72,28 @@ pub raised-budgeted : {call : Words → ℕ → Outcome} (n : ℕ) → Budgeted 
 unfolding raised
 raised-budgeted n d = mapped-budgeted (λ v. n + v) d
 
--- and arguments be refused, whatever the budget.
+-- One that works its value out of draws below given bounds
+pub draws-budgeted : (value : List ℕ → ℕ) (bounds : List ℕ) → Budgeted (λ s b. outcomeOf value (draws s bounds b))
+draws-budgeted value bounds = record {
+  larger = λ s b b′ h a. ap (outcomeOf value) (call-larger value s bounds b b′ h a);
+  unused = λ s b. unused (draws s bounds b);
+  valueless = λ s b. valueless (draws s bounds b);
+  within = λ s b. within s b (draws s bounds b) refl;
+}
+  where
+    unused : (d : Drawn) → Refused (outcomeOf value d) → outcomeOf value d .used ≡ 0
+    unused (all vs n) h = absurd (h refl)
+    unused (short m) h = refl
+
+    valueless : (d : Drawn) → Refused (outcomeOf value d) → outcomeOf value d .value ≡ 0
+    valueless (all vs n) h = absurd (h refl)
+    valueless (short m) h = refl
+
+    within : (s : Words) (b : ℕ) (d : Drawn) → draws s bounds b ≡ d → outcomeOf value d .used ≤ b
+    within s b (all vs n) e = draws-within s bounds b e
+    within s b (short m) e = omega arith
+
+-- And arguments may be refused, whatever the budget.
 pub checked-budgeted : {call : Words → ℕ → Outcome} (wrong : Bool) (number : ℕ) → (number ≡ answered → ⊥) → Budgeted call
     → Budgeted (λ s b. cond wrong (refused number) (call s b))
 checked-budgeted true number h d = record {

@@ -3,7 +3,8 @@ use mathlib.Core.Path.{_≡_, refl, sym, _∙_, ap}
 use mathlib.Core.Bool.{Bool, true, false, true≢false}
 use Prim.Native.Nat.{ℕ, _≤_, _<_}
 use Rattle.words.specs.Refusal.{answered, tooLong, outOfBudget}
-use Rattle.words.specs.Draw.{Words, Drawn, all, short, Outcome, outcomeOf}
+use Rattle.words.specs.declared.outcome.Outcome.{Outcome}
+use Rattle.words.specs.Draw.{Words, Drawn, all, short, outcomeOf}
 use Rattle.lists.specs.Limit.{listLimit}
 use Rattle.shuffle.specs.declared.rehearsal.Rehearsed.{Rehearsed}
 use Rattle.shuffle.specs.Rehearsal.{rehearsedOf}

@@ -4,7 +4,9 @@ use mathlib.Core.Path.{_≡_, refl, sym, _∙_, ap}
 use mathlib.Core.Bool.{Bool, true, false}
 use mathlib.Core.List.{List, [], _∷_, _++_}
 use Prim.Native.Nat.{ℕ, zero, suc, _+_, _-_, _≤_, _<_}
-use native.Mathlib.Nat.{add-zero}
+use mathlib.Core.Logic.{_⊎_, inl, inr, ⊎-elim}
+use native.Mathlib.Decide.{decLe}
+use native.Mathlib.Nat.{add-zero, lt-of-not-le}
 use native.Mathlib.Omega.{arith}
 use lib.ListN.{length, length-append}
 use Rattle.words.specs.Draw.{Words, good, quotient, all, short, draws}
@@ -78,3 +80,34 @@ module _ (s : Words) (first : ℕ) (falls : Bool) (count budget : ℕ) where
     pub rehearsing-out : settledAfter s first falls taken < count → budget ≤ taken
         → draws s (boundsFrom first falls count) budget ≡ short (settledAfter s first falls taken)
     rehearsing-out m b = underway-out (left taken h m) b
+
+  -- One of these comes, after some words.
+  abbrev Ends : ℕ → Type 0
+  Ends m = (count ≤ settledAfter s first falls m) ⊎ ((settledAfter s first falls m < count) × (budget ≤ m))
+
+  reach : (fuel taken : ℕ) → taken + fuel ≡ budget → Rehearsing s first falls count budget taken → (m : ℕ) × Rehearsing s first falls count budget m × Ends m
+  reach zero taken e h =
+      elim (decLe count (settledAfter s first falls taken)) [ yes c ↦ (taken, h, inl c) | no c ↦ (taken, h, inr (lt-of-not-le c, omega arith)) ]
+  reach (suc k) taken e h =
+      elim (decLe count (settledAfter s first falls taken)) [
+        | yes c ↦ (taken, h, inl c)
+        | no c ↦
+            let more = lt-of-not-le c in
+            reach k (taken + 1) (omega arith) (rehearsing-on taken 1 h (omega arith) (omega arith))
+      ]
+
+  -- So the values of draws that are all settled are those that their words settle.
+  pub drawn-values : {vs : List ℕ} {n : ℕ} → draws s (boundsFrom first falls count) budget ≡ all vs n → valuesAfter s first falls n ≡ vs
+  drawn-values {vs} {n} e = go (reach budget 0 (omega arith) (rehearsing-start s first falls count budget))
+    where
+      go : (m : ℕ) × Rehearsing s first falls count budget m × Ends m → valuesAfter s first falls n ≡ vs
+      go (m, h, end) = ⊎-elim (λ c. settled (rehearsing-done m h c)) (λ o. absurd (unsettled (rehearsing-out m h (o .0) (o .1)))) end
+        where
+          settled : draws s (boundsFrom first falls count) budget ≡ all (valuesAfter s first falls m) m → valuesAfter s first falls n ≡ vs
+          settled d =
+              let words : n ≡ m = cc in
+              let values : valuesAfter s first falls m ≡ vs = cc in
+              ap (valuesAfter s first falls) words ∙ values
+
+          unsettled : draws s (boundsFrom first falls count) budget ≡ short (settledAfter s first falls m) → ⊥
+          unsettled d = let z : _≡_ {A = ℕ} 0 1 = cc in omega arith

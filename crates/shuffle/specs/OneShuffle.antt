@@ -8,35 +8,22 @@ use Prim.Native.Nat.{ℕ, _-_, _≤_, _<_}
 use native.Mathlib.Omega.{arith}
 use lib.ListN.{length}
 use Rattle.words.specs.Refusal.{answered, tooLong, outOfBudget}
-use Rattle.words.specs.Draw.{Words, Drawn, all, short, Outcome, refused, gives, outcomeOf}
+use Rattle.words.specs.declared.outcome.Outcome.{Outcome}
+use Rattle.words.specs.Draw.{Words, Drawn, all, short, refused, gives, outcomeOf}
 use Rattle.random.specs.declared.backend.Random.{Random}
 use Rattle.random.specs.Generator.{later, wordsOf}
 use Rattle.bounded.specs.declared.answers.Answer.{Answer}
-use Rattle.bounded.specs.declared.answers.EngineAnswer.{EngineAnswer}
-use Rattle.bounded.specs.Answers as answer
-use Rattle.bounded.specs.Answers.{joinedAnswer}
-use Rattle.bounded.specs.OneAnswer.{next-after-used, one-answer, answer-apart}
+use Rattle.bounded.specs.OneAnswer.{next-after-used}
 use Rattle.lists.specs.Limit.{listLimit}
 use Rattle.shuffle.specs.Swap.{arranged}
 use Rattle.shuffle.specs.Shuffle.{placesDrawn, shuffleBy, listAfter, shuffled}
+use Rattle.shuffle.specs.Promises.{ShufflePromise}
 use Rattle.shuffle.specs.ShuffleLaws.{shuffle-long, shuffle-drawn, list-long, list-drawn, none-drawn}
 
--- ---- one answer and one list; "The new generator is the old one after that many words" (document 01, "Draws")
+-- ---- "The new generator is the old one after that many words" (document 01, "Draws")
 
-module _ {a : Answer} {l′ : List ℕ} (g : Random) (l : List ℕ) (budget : ℕ) (p : a ≡ answer.answered g (shuffleBy (wordsOf g) (length l) budget))
-    (q : l′ ≡ shuffled (wordsOf g) l budget) where
-  pub one-shuffle : {b : Answer} {l″ : List ℕ} → b ≡ answer.answered g (shuffleBy (wordsOf g) (length l) budget) → l″ ≡ shuffled (wordsOf g) l budget
-      → (a ≡ b) × (l′ ≡ l″)
-  one-shuffle p′ q′ = (one-answer g (shuffleBy (wordsOf g) (length l) budget) p p′, q ∙ sym q′)
-
-  pub shuffle-next : a .next ≡ later (a .used) g
-  shuffle-next = next-after-used g (shuffleBy (wordsOf g) (length l) budget) p
-
-module _ {a : EngineAnswer} {m l′ : List ℕ} (g : Random) (l : List ℕ) (budget : ℕ) (p : joinedAnswer a m ≡ answer.answered g (shuffleBy (wordsOf g) (length l) budget))
-    (q : l′ ≡ shuffled (wordsOf g) l budget) where
-  pub one-shuffle-in : {b : EngineAnswer} {m′ l″ : List ℕ} → joinedAnswer b m′ ≡ answer.answered g (shuffleBy (wordsOf g) (length l) budget) → l″ ≡ shuffled (wordsOf g) l budget
-      → ((a ≡ b) × (m ≡ m′)) × (l′ ≡ l″)
-  one-shuffle-in p′ q′ = (answer-apart (p ∙ sym p′), q ∙ sym q′)
+pub shuffle-next : {a : Answer} {l′ : List ℕ} (g : Random) (l : List ℕ) (budget : ℕ) → ShufflePromise g l budget a l′ → a .next ≡ later (a .used) g
+shuffle-next g l budget p = next-after-used g (shuffleBy (wordsOf g) (length l) budget) (p .0)
 
 -- ---- its outcomes, said as a relation in the documents' words
 
@@ -82,7 +69,8 @@ module _ (s : Words) (n budget : ℕ) where
       only-if (out-of-budget m h d) e = (h, m, d)
       only-if (settled places used h d) e = absurd (omega arith)
 
-  pub answered-exactly-if : (shuffleBy s n budget .refusal ≡ answered) ↔ ((n ≤ listLimit) × (places : List ℕ) × (used : ℕ) × (placesDrawn s n budget ≡ all places used))
+  pub answered-exactly-if : (shuffleBy s n budget .refusal ≡ answered)
+      ↔ ((n ≤ listLimit) × (places : List ℕ) × (used : ℕ) × (placesDrawn s n budget ≡ all places used))
   answered-exactly-if = (only-if shuffle-is, λ h. refusal-of (settled (h .1) (h .2) (h .0) (h .3)))
     where
       only-if : {o : Outcome} → Outcomes s n budget o → o .refusal ≡ answered

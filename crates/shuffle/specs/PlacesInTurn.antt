@@ -10,8 +10,8 @@ use Rattle.words.specs.Draw.{Words, all}
 use Rattle.words.specs.EachInTurn.{InTurn, each-in-turn}
 use Rattle.words.specs.BelowItsBound.{WordSized, draws-below}
 use Rattle.words.specs.SettledNeverFalls.{as-many-values}
-use Rattle.shuffle.specs.Bounds.{boundsFrom}
-use Rattle.shuffle.specs.BoundsLaws.{bounds-length, falling-bound, falling-split}
+use Rattle.rehearsal.specs.Bounds.{boundsFrom}
+use Rattle.rehearsal.specs.BoundsLaws.{bounds-length, bound-at, bounds-split}
 use Rattle.shuffle.specs.Shuffle.{placesDrawn}
 
 module _ (s : Words) (n budget : ℕ) {places : List ℕ} {used : ℕ} (e : placesDrawn s n budget ≡ all places used) where
@@ -25,11 +25,13 @@ module _ (s : Words) (n budget : ℕ) {places : List ℕ} {used : ℕ} (e : plac
     place-in-turn =
         let count : n - 1 ≡ n - 1 - i + suc (i - 1) = omega arith in
         let bound : n - (n - 1 - i) ≡ i + 1 = omega arith in
-        let split : boundsFrom n true (n - 1) ≡ boundsFrom n true (n - 1 - i) ++ ((i + 1) ∷ boundsFrom (i + 1 - 1) true (i - 1)) =
-        ap (boundsFrom n true) count ∙ falling-split n (n - 1 - i) (i - 1) ∙ ap (λ (r : ℕ). boundsFrom n true (n - 1 - i) ++ (r ∷ boundsFrom (r - 1) true (i - 1))) bound in
-        each-in-turn s (boundsFrom n true (n - 1 - i)) (i + 1) (boundsFrom (i + 1 - 1) true (i - 1)) budget (rw split at e)
+        let next : n - (n - 1 - i + 1) ≡ i = omega arith in
+        let split : boundsFrom n true (n - 1) ≡ boundsFrom n true (n - 1 - i) ++ ((i + 1) ∷ boundsFrom i true (i - 1)) =
+        ap (boundsFrom n true) count ∙ bounds-split n true (n - 1 - i) (i - 1) ∙ rw (bound, next) in
+        each-in-turn s (boundsFrom n true (n - 1 - i)) (i + 1) (boundsFrom i true (i - 1)) budget (rw split at e)
 
     pub place-at-most : WordSized s → getD places (n - 1 - i) 0 ≤ i
     place-at-most sized =
-        let below = draws-below s (boundsFrom n true (n - 1)) budget sized e .below (n - 1 - i) (rw (bounds-length n true (n - 1)) (omega arith)) in
-        omega (arith, below, falling-bound n (n - 1) (n - 1 - i) (omega arith))
+        let below =
+        draws-below s (boundsFrom n true (n - 1)) budget sized e .below (n - 1 - i) (rw (bounds-length n true (n - 1)) (omega arith)) in
+        omega (arith, below, bound-at n true (n - 1) (n - 1 - i) (omega arith))

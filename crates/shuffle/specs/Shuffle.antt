@@ -6,9 +6,10 @@ use Prim.Native.Nat.{ℕ, _-_}
 use lib.Dec.{ltb}
 use lib.ListN.{length}
 use Rattle.words.specs.Refusal.{tooLong}
-use Rattle.words.specs.Draw.{Words, Drawn, all, short, draws, Outcome, refused, outcomeOf}
+use Rattle.words.specs.declared.outcome.Outcome.{Outcome}
+use Rattle.words.specs.Draw.{Words, Drawn, all, short, draws, refused, outcomeOf}
 use Rattle.lists.specs.Limit.{listLimit}
-use Rattle.shuffle.specs.Bounds.{boundsFrom}
+use Rattle.rehearsal.specs.Bounds.{boundsFrom}
 use Rattle.shuffle.specs.Swap.{arranged}
 
 -- "from the last place down to place 1, place i drawing below i + 1": below n, n - 1, .., 2 for n entries. "Lengths 0 and 1 use no word."

@@ -1,65 +1,80 @@
 -- What the shuffle over a lent table owes, by its ways out.
 use mathlib.Core.Path.{_≡_, refl, sym, _∙_, ap}
-use mathlib.Core.Bool.{true, false, true≢false}
+use mathlib.Core.Bool.{Bool, true, false, true≢false}
 use mathlib.Core.List.{List}
-use Prim.Native.Nat.{ℕ, _+_, _-_, _≤_, _<_}
-use native.Mathlib.Omega.{arith}
+use Prim.Native.Nat.{ℕ, _≤_, _<_}
 use lib.ListN.{length}
-use Rattle.words.specs.Refusal.{tooLong, outOfBudget}
-use Rattle.words.specs.Draw.{Drawn, all, short, draws, refused}
+use Rattle.words.specs.Refusal.{answered, tooLong, outOfBudget}
+use Rattle.words.specs.declared.outcome.Outcome.{Outcome}
+use Rattle.words.specs.Draw.{Words, Drawn, all, short, refused, gives, outcomeOf}
 use Rattle.random.specs.declared.engine.Engine.{Engine}
-use Rattle.random.specs.declared.backend.Random.{Random}
-use Rattle.random.specs.Generator.{wordsOf}
+use Rattle.random.specs.Generator.{later, wordsOf}
 use Rattle.random.specs.GeneratorLaws.{later-none}
 use Rattle.random.specs.Lent.{joinedWith}
 use Rattle.bounded.specs.declared.answers.EngineAnswer.{EngineAnswer}
-use Rattle.bounded.specs.Answers.{joinedAnswer, answered, refusing, accepting}
-use Rattle.bounded.specs.AnswerLaws.{refusing-answers, accepting-answers}
+use Rattle.bounded.specs.Answers.{answerIn, answerFrom}
 use Rattle.lists.specs.Limit.{listLimit}
-use Rattle.shuffle.specs.declared.rehearsal.Rehearsed.{Rehearsed}
-use Rattle.shuffle.specs.Bounds.{boundsFrom}
-use Rattle.shuffle.specs.Rehearsal.{rehearsedOf}
-use Rattle.shuffle.specs.Performing.{Performed}
-use Rattle.shuffle.specs.Shuffle.{placesDrawn, shuffleBy, shuffled}
-use Rattle.shuffle.specs.ShuffleLaws.{Shuffles, shuffles-long, shuffles-tiny, shuffles-all, shuffles-short}
+use Rattle.rehearsal.specs.Rehearsal.{drawsOf, rehearsedOf}
+use Rattle.rehearsal.specs.declared.rehearsing.Rehearsed.{Rehearsed}
+use Rattle.shuffle.specs.OneShuffle.{answered-exactly-if, refused-list}
+use Rattle.shuffle.specs.Performing.{shuffleDraws}
+use Rattle.shuffle.specs.PerformingLaws.{draws-fit, all-words, all-performed}
+use Rattle.shuffle.specs.Promises.{OutcomeInPromise, PerformInPromise, ShuffleInPromise}
+use Rattle.shuffle.specs.Shuffle.{placesDrawn, shuffleBy}
+use Rattle.shuffle.specs.ShuffleBudgeted.{shuffle-budgeted}
+use Rattle.shuffle.specs.ShuffleLaws.{shuffle-long, shuffle-drawn}
 
--- the answer a with the table m, and the list l that became l′
-abbrev pub Shuffled : Random → List ℕ → ℕ → EngineAnswer → List ℕ → List ℕ → Type 0
-Shuffled g l budget a m l′ = (joinedAnswer a m ≡ answered g (shuffleBy (wordsOf g) (length l) budget)) × (l′ ≡ shuffled (wordsOf g) l budget)
+-- ---- what it comes to
 
-module _ {a : EngineAnswer} (e : Engine) (m l : List ℕ) (budget : ℕ) where
-  unchanged : {number : ℕ} → a ≡ refusing number e → Shuffles (wordsOf (joinedWith e m)) l budget (refused number) l → Shuffled (joinedWith e m) l budget a m l
-  unchanged p s = (refusing-answers e m p (s .outcome), s .list)
-
+module _ (s : Words) (n budget : ℕ) where
   -- the list is too long,
-  pub shuffled-long : a ≡ refusing tooLong e → listLimit < length l → Shuffled (joinedWith e m) l budget a m l
-  shuffled-long p h = unchanged p (shuffles-long (wordsOf (joinedWith e m)) l budget h)
+  pub outcome-long : {o : Outcome} → o ≡ refused tooLong → listLimit < n → o ≡ shuffleBy s n budget
+  outcome-long p h = p ∙ sym (shuffle-long s budget n h)
 
-  -- or has no place to draw for,
-  pub shuffled-tiny : a ≡ accepting 0 0 e → length l < 2 → Shuffled (joinedWith e m) l budget a m l
-  shuffled-tiny p h =
-      let s = shuffles-tiny (wordsOf (joinedWith e m)) l budget h in
-      (accepting-answers e m (joinedWith e m) p (s .outcome) (sym (later-none (joinedWith e m))), s .list)
+  -- or its draws are rehearsed,
+  module _ {d : Rehearsed} (fits : n ≤ listLimit) (told : d ≡ rehearsedOf (drawsOf s (shuffleDraws n budget))) where
+    by-rehearsal : {o : Outcome} {b : Bool} → d .complete ≡ b
+        → ((drawn : Drawn) → d ≡ rehearsedOf drawn → rehearsedOf drawn .complete ≡ b → o ≡ outcomeOf (λ places. 0) drawn) → o ≡ shuffleBy s n budget
+    by-rehearsal q said =
+        let same = told ∙ rw (draws-fit n budget fits) in
+        said (placesDrawn s n budget) same (sym (ap (λ (x : Rehearsed). x .complete) same) ∙ q) ∙ sym (shuffle-drawn s budget n fits)
 
-  -- or the budget ends first,
-  pub shuffled-short : {d : Rehearsed} → length l ≤ listLimit → d ≡ rehearsedOf (placesDrawn (wordsOf (joinedWith e m)) (length l) budget) → d .complete ≡ false
-      → a ≡ refusing outOfBudget e → Shuffled (joinedWith e m) l budget a m l
-  shuffled-short {d} fits told q p = go (placesDrawn (wordsOf (joinedWith e m)) (length l) budget) refl
-    where
-      go : (drawn : Drawn) → placesDrawn (wordsOf (joinedWith e m)) (length l) budget ≡ drawn → Shuffled (joinedWith e m) l budget a m l
-      go (all places n) h = absurd (true≢false (sym (ap (λ (x : Rehearsed). x .complete) (told ∙ ap rehearsedOf h)) ∙ q))
-      go (short n) h = unchanged p (shuffles-short (wordsOf (joinedWith e m)) l budget fits h)
+    -- and all are settled,
+    pub outcome-all : {o : Outcome} → d .complete ≡ true → o ≡ gives 0 (d .used) → o ≡ shuffleBy s n budget
+    outcome-all {o} q p = by-rehearsal q go
+      where
+        go : (drawn : Drawn) → d ≡ rehearsedOf drawn → rehearsedOf drawn .complete ≡ true → o ≡ outcomeOf (λ places. 0) drawn
+        go (all places used) e c = p ∙ ap (λ (x : Rehearsed). gives 0 (x .used)) e
+        go (short m) e c = absurd (true≢false (sym c))
 
--- or all draws are settled.
-pub shuffled-all : {g : Random} {l l′ : List ℕ} {budget : ℕ} {d : Rehearsed} {a : EngineAnswer} {m : List ℕ} → 0 < length l → length l ≤ listLimit
-    → d ≡ rehearsedOf (placesDrawn (wordsOf g) (length l) budget) → d .complete ≡ true → Performed g (length l - 1) budget l l′ a m → Shuffled g l budget a m l′
-shuffled-all {g} {l} {l′} {budget} {d} {a} {m} some fits told q p = go (placesDrawn (wordsOf g) (length l) budget) refl
-  where
-    go : (drawn : Drawn) → placesDrawn (wordsOf g) (length l) budget ≡ drawn → Shuffled g l budget a m l′
-    go (all places n) h =
-        let z : length l - 1 + 1 ≡ length l = omega arith in
-        let same : draws (wordsOf g) (boundsFrom (length l - 1 + 1) true (length l - 1)) budget ≡ all places n = rw z h in
-        let (list, answer) = p .done places n same in
-        let s = shuffles-all (wordsOf g) l budget fits h list in
-        (answer ∙ ap (answered g) (sym (s .outcome)), s .list)
-    go (short n) h = absurd (true≢false (sym q ∙ ap (λ (x : Rehearsed). x .complete) (told ∙ ap rehearsedOf h)))
+    -- or not.
+    pub outcome-short : {o : Outcome} → d .complete ≡ false → o ≡ refused outOfBudget → o ≡ shuffleBy s n budget
+    outcome-short {o} q p = by-rehearsal q go
+      where
+        go : (drawn : Drawn) → d ≡ rehearsedOf drawn → rehearsedOf drawn .complete ≡ false → o ≡ outcomeOf (λ places. 0) drawn
+        go (all places used) e c = absurd (true≢false c)
+        go (short m) e c = p
+
+-- ---- and the call that goes by it
+
+module _ {o : Outcome} {a : EngineAnswer} (e : Engine) (mt list : List ℕ) (budget : ℕ) (told : OutcomeInPromise e mt (length list) budget o) where
+  -- It is refused, and nothing has changed;
+  pub shuffled-refused : (o .refusal ≡ answered → ⊥) → a ≡ answerIn o e → ShuffleInPromise e mt list budget a mt list
+  unfolding answerFrom
+  shuffled-refused n p =
+      let s = wordsOf (joinedWith e mt) in
+      let refusal : shuffleBy s (length list) budget .refusal ≡ answered → ⊥ = λ z. n (ap (λ (x : Outcome). x .refusal) told ∙ z) in
+      let none = shuffle-budgeted (length list) .unused s budget refusal in
+      (rw (p, told, none, later-none (joinedWith e mt)), sym (refused-list s list budget refusal))
+
+  -- or it is performed.
+  pub shuffled-all : {next : Engine} {mt′ list′ : List ℕ} → o .refusal ≡ answered → PerformInPromise e mt list budget next mt′ list′ → a ≡ answerIn o next
+      → ShuffleInPromise e mt list budget a mt′ list′
+  unfolding answerFrom
+  shuffled-all z p q =
+      let s = wordsOf (joinedWith e mt) in
+      let (fits, places, n, drawn) = answered-exactly-if s (length list) budget .0 (sym (ap (λ (x : Outcome). x .refusal) told) ∙ z) in
+      let used : shuffleBy s (length list) budget .used ≡ n =
+      ap (λ (x : Outcome). x .used) (shuffle-drawn s budget (length list) fits ∙ ap (outcomeOf (λ places. 0)) drawn) in
+      let moved = p .0 ∙ ap (λ (x : ℕ). later x (joinedWith e mt)) (all-words s list budget fits drawn ∙ sym used) in
+      (rw (q, told, moved), p .1 ∙ all-performed s list budget fits drawn)

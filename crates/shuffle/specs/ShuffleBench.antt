@@ -4,9 +4,10 @@ use mathlib.Core.List.{List, [], _∷_}
 use Prim.Native.Nat.{ℕ}
 use lib.ListN.{length}
 use Rattle.words.specs.Refusal.{outOfBudget}
-use Rattle.words.specs.Draw.{listed, first, firstGood, Outcome, gives, refused, draws}
+use Rattle.words.specs.declared.outcome.Outcome.{Outcome}
+use Rattle.words.specs.Draw.{listed, first, firstGood, gives, refused, draws}
 use Rattle.words.specs.Table.{Row, Holds, end, _&_}
-use Rattle.shuffle.specs.Bounds.{boundsFrom}
+use Rattle.rehearsal.specs.Bounds.{boundsFrom}
 use Rattle.shuffle.specs.Swap.{swapped, arranged}
 use Rattle.shuffle.specs.Shuffle.{shuffleBy, shuffled}
 

@@ -52,3 +52,11 @@ arranged-more i [] j l = let z : i - 0 ≡ i = omega arith in rw z
 arranged-more i (x ∷ js) j l =
     let z : i - 1 - length js ≡ i - suc (length js) = omega arith in
     arranged-more (i - 1) js j (swapped l i x) ∙ ap (λ (n : ℕ). swapped (arranged (i - 1) js (swapped l i x)) n j) z
+
+-- some places, and then some more
+pub arranged-append : (i : ℕ) (js ks l : List ℕ) → arranged i (js ++ ks) l ≡ arranged (i - length js) ks (arranged i js l)
+unfolding arranged
+arranged-append i [] ks l = let z : i - 0 ≡ i = omega arith in rw z
+arranged-append i (j ∷ js) ks l =
+    let z : i - 1 - length js ≡ i - suc (length js) = omega arith in
+    arranged-append (i - 1) js ks (swapped l i j) ∙ ap (λ (n : ℕ). arranged n ks (arranged (i - 1) js (swapped l i j))) z

@@ -1,11 +1,12 @@
-// A list shuffled in place within a budget of words, over a lent table and by value; and the rehearsal of draws and the swap of two places, for
-// any call that draws several times and touches nothing where it refuses.
-mod in_place;
-mod rehearsal;
+// A list shuffled in place within a budget of words, over a lent table and by value; and the two halves of it, what it comes to and its swaps, for a
+// call that does something between them.
+mod arranging;
+mod performing;
+mod shuffling;
 mod swapping;
 
-pub use in_place::shuffle;
-pub use in_place::shuffle_in;
-pub use rehearsal::Rehearsed;
-pub use rehearsal::rehearse;
+pub use performing::perform_in;
+pub use shuffling::outcome_in;
+pub use shuffling::shuffle;
+pub use shuffling::shuffle_in;
 pub use swapping::swap;

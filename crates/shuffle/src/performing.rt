@@ -1,0 +1,65 @@
+// The swaps of a shuffle.
+ghost use mathlib.Core.Path.{_≡_};
+ghost use Rattle.shuffle.specs.Performing.{shuffleDraws};
+ghost use Rattle.shuffle.specs.Promises.{PerformInPromise};
+use crate::arranging::arrange;
+use lists::limit::LIST_LIMIT;
+use random::Engine;
+use rehearsal::Draws;
+use rehearsal::Turn;
+
+// The words taken at once. Nothing depends on it but the time.
+const BLOCK: usize = 32;
+
+// The draws of a shuffle of n entries: below n, n - 1, .., 2. None where the list is too long.
+pub(crate) fn draws_of(n: usize, budget: u32) -> Draws
+    ensures { λ d. ⌜ d ≡ shuffleDraws n budget ⌝ }
+{
+    if n > LIST_LIMIT {
+        return Draws {
+            first: 0,
+            falls: true,
+            count: 0,
+            budget,
+        };
+    }
+    let first = n as u32;
+    if first == 0 {
+        return Draws {
+            first,
+            falls: true,
+            count: 0,
+            budget,
+        };
+    }
+    Draws {
+        first,
+        falls: true,
+        count: first - 1,
+        budget,
+    }
+}
+
+// The draws of a shuffle with their swaps, as far as the words of the budget go, and the engine after those words: the whole shuffle where
+// `outcome_in` is answered with this budget.
+pub fn perform_in(e: Engine, mt: &mut [u32; 624], list: &mut [u32], budget: u32) -> Engine
+    ensures { λ r. ⌜ PerformInPromise e (now (mt .entry)) (now (list .entry)) budget r (now (mt .exit)) (now (list .exit)) ⌝ }
+{
+    let d = draws_of(list.len(), budget);
+    let mut block = [0u32; BLOCK];
+    let mut t = Turn {
+        next: e,
+        used: 0,
+        settled: 0,
+    };
+    while t.settled < d.count {
+        if d.budget <= t.used {
+            return t.next;
+        }
+        let before = t.settled;
+        t = rehearsal::take_turn(d, t, mt, &mut block);
+        let fresh = (t.settled - before) as usize;
+        arrange(list, (d.count - before) as usize, &block[..fresh]);
+    }
+    t.next
+}
