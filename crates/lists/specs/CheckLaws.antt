@@ -13,7 +13,7 @@ use Rattle.lists.specs.Checks.{listRefusal, windowRefusal, firstOf, slic
 
 -- ---- the list
 
--- "EMPTY"; "TOO LONG: a list above 65,536 entries"
+-- "EMPTY"; "TOO LONG": a list above the limit
 pub data OfList (n : ℕ) : ℕ → Type 0 where
   is-empty : n ≡ 0 → OfList n empty
   too-long : listLimit < n → OfList n tooLong

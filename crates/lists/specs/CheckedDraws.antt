@@ -1,5 +1,5 @@
--- A draw below r after a check of the arguments, as `choose` and `rand_slice` are: that it is a budgeted call; which outcomes it may have, said
--- as a relation; and when each comes.
+-- A draw below r after a check of the arguments, as `choose` and `rand_slice` are: that it is a budgeted call; which outcomes it may have,
+-- said as a relation; and when each comes.
 use mathlib.Core.Path.{_≡_, refl, sym, _∙_, ap}
 use mathlib.Core.Bool.{Bool, true, false}
 use mathlib.Core.Logic.{_↔_}
@@ -51,8 +51,12 @@ module _ (number : ℕ) (s : Words) (r budget : ℕ) (pos : number ≡ answered 
       drawn z (one.out-of-budget h f) = out-of-budget z f
 
       go : (b : Bool) → eqb number answered ≡ b → Unless number s r budget (unless number (boundedBy s r budget))
-      go true e = let z = eqb-true number answered e in rw (unless-passed number (boundedBy s r budget) z) (drawn z (bounded-is s r budget))
-      go false e = let h = eqb-false number answered e in rw (unless-refuses number (boundedBy s r budget) h) (refuses h)
+      go true e =
+          let z = eqb-true number answered e in
+          rw (unless-passed number (boundedBy s r budget) z) (drawn z (bounded-is s r budget))
+      go false e =
+          let h = eqb-false number answered e in
+          rw (unless-refuses number (boundedBy s r budget) h) (refuses h)
 
   pub unless-only : {o : Outcome} → Unless number s r budget o → unless number (boundedBy s r budget) ≡ o
   unless-only (refuses h) = unless-refuses number (boundedBy s r budget) h
@@ -60,9 +64,13 @@ module _ (number : ℕ) (s : Words) (r budget : ℕ) (pos : number ≡ answered 
   unless-only (out-of-budget z f) = unless-passed number (boundedBy s r budget) z ∙ bounded-only s r budget (one.out-of-budget (pos z) f)
 
   -- refused by the check,
-  pub checked-exactly-if : (m : ℕ) → (m ≡ answered → ⊥) → (m ≡ outOfBudget → ⊥) → (unless number (boundedBy s r budget) .refusal ≡ m) ↔ (number ≡ m)
-  checked-exactly-if m some other = (only-if unless-is, λ e. ap (λ (o : Outcome). o .refusal) (unless-only (refuses (λ z. some (sym e ∙ z)))) ∙ e)
+  pub checked-exactly-if : (m : ℕ) → (m ≡ answered → ⊥) → (m ≡ outOfBudget → ⊥)
+      → (unless number (boundedBy s r budget) .refusal ≡ m) ↔ (number ≡ m)
+  checked-exactly-if m some other = (only-if unless-is, exactly)
     where
+      exactly : number ≡ m → unless number (boundedBy s r budget) .refusal ≡ m
+      exactly e = ap (λ (o : Outcome). o .refusal) (unless-only (refuses (λ z. some (sym e ∙ z)))) ∙ e
+
       only-if : {o : Outcome} → Unless number s r budget o → o .refusal ≡ m → number ≡ m
       only-if (refuses h) e = e
       only-if (answers k z f) e = absurd (some (sym e))
@@ -87,7 +95,8 @@ module _ (number : ℕ) (s : Words) (r budget : ℕ) (pos : number ≡ answered 
       go (answers k z f) e = z
       go (out-of-budget z f) e = z
 
-  pub answered-below : WordSized s → unless number (boundedBy s r budget) .refusal ≡ answered → unless number (boundedBy s r budget) .value < r
+  pub answered-below : WordSized s → unless number (boundedBy s r budget) .refusal ≡ answered
+      → unless number (boundedBy s r budget) .value < r
   answered-below sized = go unless-is
     where
       go : {o : Outcome} → Unless number s r budget o → o .refusal ≡ answered → o .value < r

@@ -8,7 +8,7 @@ use Rattle.words.specs.declared.outcome.Outcome.{Outcome}
 use Rattle.words.specs.Draw.{refused}
 use Rattle.lists.specs.Limit.{listLimit}
 
--- "an empty list"; "a list above 65,536 entries"
+-- "an empty list"; a list above the limit
 unfoldable pub listRefusal : ℕ → ℕ
 listRefusal n = cond (eqb n 0) empty (cond (ltb listLimit n) tooLong answered)
 

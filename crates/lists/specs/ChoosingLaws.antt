@@ -1,40 +1,54 @@
 -- What the code of `choose` builds is the answer of its definition.
-use mathlib.Core.Path.{_≡_, ap}
+use mathlib.Core.Path.{_≡_, refl, sym, _∙_, ap}
 use mathlib.Core.List.{List}
-use Prim.Native.Nat.{ℕ}
-use borrow.Author.Tests.{eq-eqb, ne-eqb}
-use lib.Dec.{eqb}
-use mathlib.Core.Bool.{cond}
-use lib.ListN.{getD}
-use Rattle.words.specs.Refusal.{answered}
+use Prim.Native.Nat.{ℕ, _≤_}
+use lib.ListN.{length, getD, List·getD-eq-default}
 use Rattle.words.specs.declared.outcome.Outcome.{Outcome}
+use Rattle.words.specs.Refusal.{answered}
+use Rattle.words.specs.OutcomeLaws.{worked-answered, worked-refused}
 use Rattle.random.specs.declared.backend.Random.{Random}
 use Rattle.bounded.specs.declared.answers.EngineAnswer.{EngineAnswer}
-use Rattle.bounded.specs.declared.answers.Answer.{Answer}
-use Rattle.bounded.specs.Answers.{joinedAnswer}
-use Rattle.lists.specs.declared.places.Chosen.{Chosen}
-use Rattle.lists.specs.declared.places.EngineChosen.{EngineChosen}
-use Rattle.lists.specs.Choosing.{entryOf, chosenBy, joinedChoice}
-use Rattle.bounded.specs.Answers as answers
+use Rattle.bounded.specs.Answers.{answerFrom, outcomeIn, joinedAnswer}
+use Rattle.bounded.specs.AnswerLaws.{worked-answers}
+use Rattle.random.specs.Lent.{joinedWith}
+use Rattle.lists.specs.declared.outcomes.Choice.{Choice}
+use Rattle.lists.specs.Choosing.{entryOf, choiceWith, choiceFrom}
+use Rattle.lists.specs.Promises.{PlaceWithin}
 
--- a drawn place, with the entry there or 0 beside it
-choosing : List ℕ → Answer → Chosen
-choosing list x = record {
-  refusal = x .refusal;
-  place = x .value;
-  value = cond (eqb (x .refusal) answered) (getD list (x .value) 0) 0;
-  used = x .used;
-  next = x .next;
-}
+-- ---- the outcome read on the list
 
-abbrev pub withEntry : EngineAnswer → ℕ → EngineChosen
-withEntry a v = record { refusal = a .refusal; place = a .value; value = v; used = a .used; next = a .next }
+-- a drawn place, with this value beside it
+abbrev pub withValue : Outcome → ℕ → Choice
+withValue o v = record { refusal = o .refusal; place = o .value; value = v; used = o .used }
 
-module _ {a : EngineAnswer} {m : List ℕ} (list : List ℕ) (g : Random) (o : Outcome) (h : joinedAnswer a m ≡ answers.answered g o) where
-  pub entry-answers : a .refusal ≡ answered → joinedChoice (withEntry a (getD list (a .value) 0)) m ≡ chosenBy g (entryOf list o)
-  unfolding choosing chosenBy entryOf answers.answered
-  entry-answers z = rw (eq-eqb (a .refusal) answered z) at (ap (choosing list) h)
+module _ (list : List ℕ) (o : Outcome) where
+  pub entry-there : o .refusal ≡ answered → withValue o (getD list (o .value) 0) ≡ entryOf list o
+  unfolding entryOf
+  entry-there h = rw (worked-answered (λ v. getD list v 0) 0 o h)
 
-  pub no-entry-answers : (a .refusal ≡ answered → ⊥) → joinedChoice (withEntry a 0) m ≡ chosenBy g (entryOf list o)
-  unfolding choosing chosenBy entryOf answers.answered
-  no-entry-answers z = rw (ne-eqb (a .refusal) answered z) at (ap (choosing list) h)
+  -- the list ends before the place
+  pub entry-past : o .refusal ≡ answered → length list ≤ o .value → withValue o 0 ≡ entryOf list o
+  entry-past h past = ap (withValue o) (sym (List·getD-eq-default list 0 past)) ∙ entry-there h
+
+  pub entry-refused : (o .refusal ≡ answered → ⊥) → withValue o 0 ≡ entryOf list o
+  unfolding entryOf
+  entry-refused h = rw (worked-refused (λ v. getD list v 0) 0 o h)
+
+  pub entry-used : entryOf list o .used ≡ o .used
+  unfolding entryOf
+  entry-used = refl
+
+-- ---- and so the answer
+
+pub entry-answers : {a : EngineAnswer} {t : List ℕ} {told : Outcome} {c : Choice} (list : List ℕ) (g : Random) (o : Outcome)
+    → joinedAnswer a t ≡ answerFrom g o → told ≡ outcomeIn a → c ≡ entryOf list told
+    → choiceWith c (joinedWith (a .next) t) ≡ choiceFrom g (entryOf list o)
+unfolding choiceFrom
+entry-answers list g o h told made =
+    worked-answers choiceWith (λ (x : Choice). x .used) (entryOf list) g o h (made ∙ ap (entryOf list) told) (entry-used list o)
+
+-- a place that is one of the n stays so
+pub entry-within : {o told : Outcome} {c : Choice} (n : ℕ) (list : List ℕ) → told ≡ o → c ≡ entryOf list told
+    → PlaceWithin n (o .refusal) (o .value) → PlaceWithin n (c .refusal) (c .place)
+unfolding entryOf
+entry-within n list told made within = rw (made, told) within

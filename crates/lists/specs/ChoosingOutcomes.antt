@@ -1,15 +1,14 @@
--- `choose`: when it is refused, and with which number; the place and the entry of an answer; the same answer at every larger budget (document 01,
--- "Draws", "When the unit says no"; the order, demand 3).
+-- `choose`: when it is refused, and with which number; the place and the entry of an answer; the same answer at every larger budget
+-- (document 01, "Draws", "When the unit says no"; the order, demand 3).
 use mathlib.Core.Path.{_≡_, ap}
 use mathlib.Core.List.{List}
 use mathlib.Core.Logic.{_↔_, Iff·trans}
 use Prim.Native.Nat.{ℕ, _≤_, _<_}
 use native.Mathlib.Omega.{arith}
-use borrow.Author.Tests.{eq-eqb, ne-eqb}
 use lib.ListN.{length, getD}
 use Rattle.words.specs.Refusal.{answered, empty, tooLong, outOfBudget}
-use Rattle.words.specs.declared.outcome.Outcome.{Outcome}
 use Rattle.words.specs.Draw.{Words}
+use Rattle.words.specs.OutcomeLaws.{worked-answered, worked-refused}
 use Rattle.words.specs.GoodWord.{NoneGood}
 use Rattle.words.specs.BelowItsBound.{WordSized}
 use Rattle.random.specs.declared.backend.Random.{Random}
@@ -19,7 +18,7 @@ use Rattle.bounded.specs.Budgeted.{Budgeted, bounded-budgeted}
 use Rattle.lists.specs.Checks.{listRefusal}
 use Rattle.lists.specs.CheckLaws.{list-empty-exactly-if, list-too-long-exactly-if, list-allowed-exactly-if, list-not-short}
 use Rattle.lists.specs.CheckedDraws.{unless-budgeted, checked-exactly-if, short-exactly-if, answered-below, answered-uses-a-word}
-use Rattle.lists.specs.Choosing.{placeBy, entryOf, noChoice, chooseBy, chosenBy}
+use Rattle.lists.specs.Choosing.{placeBy, entryOf, chooseBy, choiceFrom}
 
 -- the place is a budgeted call's value
 pub place-budgeted : (n : ℕ) → Budgeted (λ s b. placeBy s n b)
@@ -32,7 +31,8 @@ module _ (s : Words) (list : List ℕ) where
 
   module _ (budget : ℕ) where
     -- what the check refuses, `choose` does
-    by-check : (m : ℕ) → (m ≡ answered → ⊥) → (m ≡ outOfBudget → ⊥) → (chooseBy s list budget .refusal ≡ m) ↔ (listRefusal (length list) ≡ m)
+    by-check : (m : ℕ) → (m ≡ answered → ⊥) → (m ≡ outOfBudget → ⊥)
+        → (chooseBy s list budget .refusal ≡ m) ↔ (listRefusal (length list) ≡ m)
     unfolding chooseBy entryOf placeBy
     by-check = checked-exactly-if (listRefusal (length list)) s (length list) budget some-entry
 
@@ -53,12 +53,18 @@ module _ (s : Words) (list : List ℕ) where
         (λ h. (list-allowed-exactly-if .0 (h .0), h .1), λ h. (list-allowed-exactly-if .1 (h .0), h .1))
 
     -- "Every refusal gives its number, value 0 and 0 words used .. Any other part of the answer (place, ..) is 0"
-    pub choose-bare : (chooseBy s list budget .refusal ≡ answered → ⊥) → chooseBy s list budget ≡ noChoice (chooseBy s list budget .refusal)
-    unfolding chooseBy entryOf
-    choose-bare h =
-        let o = placeBy s (length list) budget in
-        rw (ne-eqb (o .refusal) answered h)
-        (ap (λ (x : Outcome). record { refusal = o .refusal; place = x .value; value = 0; used = x .used }) (place-budgeted (length list) .bare s budget h))
+    module _ (n : chooseBy s list budget .refusal ≡ answered → ⊥) where
+      pub choose-unused : chooseBy s list budget .used ≡ 0
+      unfolding chooseBy entryOf
+      choose-unused = place-budgeted (length list) .unused s budget n
+
+      pub choose-placeless : chooseBy s list budget .place ≡ 0
+      unfolding chooseBy entryOf
+      choose-placeless = place-budgeted (length list) .valueless s budget n
+
+      pub choose-valueless : chooseBy s list budget .value ≡ 0
+      unfolding chooseBy entryOf
+      choose-valueless = worked-refused (λ v. getD list v 0) 0 (placeBy s (length list) budget) n
 
     -- An answer: "place drawn below the length, value the entry there",
     module _ (a : chooseBy s list budget .refusal ≡ answered) where
@@ -68,7 +74,7 @@ module _ (s : Words) (list : List ℕ) where
 
       pub choose-value-there : chooseBy s list budget .value ≡ getD list (chooseBy s list budget .place) 0
       unfolding chooseBy entryOf
-      choose-value-there = rw (eq-eqb (placeBy s (length list) budget .refusal) answered a)
+      choose-value-there = worked-answered (λ v. getD list v 0) 0 (placeBy s (length list) budget) a
 
       -- and a word at least was used for it: "`choose` from one entry .. still use[s] a word".
       pub choose-uses-a-word : 0 < chooseBy s list budget .used
@@ -88,5 +94,5 @@ module _ (s : Words) (list : List ℕ) where
 -- and so the whole answer stays: value, words used and next generator, by value and over a lent table.
 module _ (list : List ℕ) (b b′ : ℕ) (h : b ≤ b′) where
   pub choice-larger : (g : Random) → chooseBy (wordsOf g) list b .refusal ≡ answered
-      → chosenBy g (chooseBy (wordsOf g) list b′) ≡ chosenBy g (chooseBy (wordsOf g) list b)
-  choice-larger g a = ap (chosenBy g) (choose-larger (wordsOf g) list b b′ h a)
+      → choiceFrom g (chooseBy (wordsOf g) list b′) ≡ choiceFrom g (chooseBy (wordsOf g) list b)
+  choice-larger g a = ap (choiceFrom g) (choose-larger (wordsOf g) list b b′ h a)

@@ -6,32 +6,38 @@ use Rattle.random.specs.Lent.{joinedWith}
 use Rattle.random.specs.declared.backend.Random.{Random}
 use Rattle.random.specs.declared.engine.Engine.{Engine}
 use Rattle.lists.specs.OneListAnswer.{choice-apart, start-apart}
-use Rattle.lists.specs.Promises.{ChooseInPromise, ChoosePromise, FirstOfPromise, ListRefusalPromise, RandSliceInPromise, RandSlicePromise, WindowOfPromise, WindowRefusalPromise}
+use Rattle.lists.specs.Promises.{ChooseInPromise, ChoosePromise, EntryOfPromise, RandSliceInPromise, RandSlicePromise}
+use Rattle.lists.specs.Promises.{StartOfPromise, WindowOfPromise}
+use Rattle.words.specs.declared.outcome.Outcome.{Outcome}
+use Rattle.lists.specs.declared.outcomes.Choice.{Choice}
+use Rattle.lists.specs.declared.outcomes.SliceOutcome.{SliceOutcome}
 use Rattle.lists.specs.declared.places.Chosen.{Chosen}
 use Rattle.lists.specs.declared.places.EngineChosen.{EngineChosen}
 use Rattle.lists.specs.declared.windows.EngineSliceStart.{EngineSliceStart}
 use Rattle.lists.specs.declared.windows.SliceStart.{SliceStart}
 
-pub one-list-refusal : (n : ℕ) {a b : ℕ} → ListRefusalPromise n a → ListRefusalPromise n b → a ≡ b
-one-list-refusal n p q = p ∙ sym q
+pub one-entry-of : (list : List ℕ) (o : Outcome) {a b : Choice} → EntryOfPromise list o a → EntryOfPromise list o b → a ≡ b
+one-entry-of list o p q = p ∙ sym q
 
-pub one-window-refusal : (n window : ℕ) {a b : ℕ} → WindowRefusalPromise n window a → WindowRefusalPromise n window b → a ≡ b
-one-window-refusal n window p q = p ∙ sym q
+pub one-start-of : (o : Outcome) {a b : SliceOutcome} → StartOfPromise o a → StartOfPromise o b → a ≡ b
+one-start-of o p q = p ∙ sym q
 
-pub one-first-of : (first second : ℕ) {a b : ℕ} → FirstOfPromise first second a → FirstOfPromise first second b → a ≡ b
-one-first-of first second p q = p ∙ sym q
-
-pub one-choose : (g : Random) (list : List ℕ) (budget : ℕ) {a b : Chosen} → ChoosePromise g list budget a → ChoosePromise g list budget b → a ≡ b
+pub one-choose : (g : Random) (list : List ℕ) (budget : ℕ) {a b : Chosen}
+    → ChoosePromise g list budget a → ChoosePromise g list budget b → a ≡ b
 one-choose g list budget p q = p ∙ sym q
 
-pub one-choose-in : (e : Engine) (mt list : List ℕ) (budget : ℕ) {a b : EngineChosen} {mt₁ mt₂ : List ℕ} → ChooseInPromise e mt list budget a mt₁ → ChooseInPromise e mt list budget b mt₂ → (a ≡ b) × (mt₁ ≡ mt₂)
+pub one-choose-in : (e : Engine) (mt list : List ℕ) (budget : ℕ) {a b : EngineChosen} {mt₁ mt₂ : List ℕ}
+    → ChooseInPromise e mt list budget a mt₁ → ChooseInPromise e mt list budget b mt₂ → (a ≡ b) × (mt₁ ≡ mt₂)
 one-choose-in e mt list budget p q = choice-apart (one-choose (joinedWith e mt) list budget p q)
 
-pub one-rand-slice : (g : Random) (list : List ℕ) (window budget : ℕ) {a b : SliceStart} → RandSlicePromise g list window budget a → RandSlicePromise g list window budget b → a ≡ b
+pub one-rand-slice : (g : Random) (list : List ℕ) (window budget : ℕ) {a b : SliceStart}
+    → RandSlicePromise g list window budget a → RandSlicePromise g list window budget b → a ≡ b
 one-rand-slice g list window budget p q = p ∙ sym q
 
-pub one-rand-slice-in : (e : Engine) (mt list : List ℕ) (window budget : ℕ) {a b : EngineSliceStart} {mt₁ mt₂ : List ℕ} → RandSliceInPromise e mt list window budget a mt₁ → RandSliceInPromise e mt list window budget b mt₂ → (a ≡ b) × (mt₁ ≡ mt₂)
+pub one-rand-slice-in : (e : Engine) (mt list : List ℕ) (window budget : ℕ) {a b : EngineSliceStart} {mt₁ mt₂ : List ℕ}
+    → RandSliceInPromise e mt list window budget a mt₁ → RandSliceInPromise e mt list window budget b mt₂ → (a ≡ b) × (mt₁ ≡ mt₂)
 one-rand-slice-in e mt list window budget p q = start-apart (one-rand-slice (joinedWith e mt) list window budget p q)
 
-pub one-window-of : (list : List ℕ) (start window : ℕ) {a b : List ℕ} → WindowOfPromise list start window a → WindowOfPromise list start window b → a ≡ b
+pub one-window-of : (list : List ℕ) (start window : ℕ) {a b : List ℕ}
+    → WindowOfPromise list start window a → WindowOfPromise list start window b → a ≡ b
 one-window-of list start window p q = p ∙ sym q

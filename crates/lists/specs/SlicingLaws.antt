@@ -1,5 +1,5 @@
 -- What the code of `rand_slice` and `window_of` builds is the answer of their definitions.
-use mathlib.Core.Path.{_≡_, ap}
+use mathlib.Core.Path.{_≡_, refl, _∙_, ap}
 use mathlib.Core.List.{List, []}
 use Prim.Native.Nat.{ℕ, _+_, _-_, _≤_, _<_}
 use native.Mathlib.Omega.{arith}
@@ -7,15 +7,34 @@ use borrow.Author.Tests.{le-leb, lt-leb}
 use lib.ListN.{length, take, drop}
 use Rattle.words.specs.declared.outcome.Outcome.{Outcome}
 use Rattle.random.specs.declared.backend.Random.{Random}
-use Rattle.bounded.specs.declared.answers.Answer.{Answer}
-use Rattle.bounded.specs.Answers.{answered}
-use Rattle.lists.specs.Slicing.{startedBy, partOf}
+use Rattle.random.specs.Lent.{joinedWith}
+use Rattle.bounded.specs.declared.answers.EngineAnswer.{EngineAnswer}
+use Rattle.bounded.specs.Answers.{answerFrom, outcomeIn, joinedAnswer}
+use Rattle.bounded.specs.AnswerLaws.{worked-answers}
+use Rattle.lists.specs.declared.outcomes.SliceOutcome.{SliceOutcome}
+use Rattle.lists.specs.Slicing.{startOf, startWith, startFrom, partOf}
+use Rattle.lists.specs.Promises.{PartFits}
 
--- the answer of a draw, its value read as the start
-pub start-answers : (g : Random) (o : Outcome) {x : Answer} → x ≡ answered g o
-    → record { refusal = x .refusal; start = x .value; used = x .used; next = x .next } ≡ startedBy g o
-unfolding answered startedBy
-start-answers g o h = ap (λ (x : Answer). record { refusal = x .refusal; start = x .value; used = x .used; next = x .next }) h
+-- ---- the start
+
+pub start-used : (o : Outcome) → startOf o .used ≡ o .used
+unfolding startOf
+start-used o = refl
+
+pub start-answers : {a : EngineAnswer} {t : List ℕ} {told : Outcome} {s : SliceOutcome} (g : Random) (o : Outcome)
+    → joinedAnswer a t ≡ answerFrom g o → told ≡ outcomeIn a → s ≡ startOf told
+    → startWith s (joinedWith (a .next) t) ≡ startFrom g (startOf o)
+unfolding startFrom
+start-answers g o h told made =
+    worked-answers startWith (λ (x : SliceOutcome). x .used) startOf g o h (made ∙ ap startOf told) (start-used o)
+
+-- a start that leaves room stays so
+pub start-fits : {o told : Outcome} {s : SliceOutcome} (n window : ℕ) → told ≡ o → s ≡ startOf told
+    → PartFits n window (o .refusal) (o .value) → PartFits n window (s .refusal) (s .start)
+unfolding startOf
+start-fits n window told made fits = rw (made, told) fits
+
+-- ---- the part
 
 module _ (list : List ℕ) (start window : ℕ) where
   pub part-past : length list < start + window → partOf list start window ≡ []

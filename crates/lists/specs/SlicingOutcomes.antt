@@ -1,5 +1,5 @@
--- `rand_slice`: when it is refused, and with which number; where an answer's start lies; the same answer at every larger budget. And the part of
--- a list that `window_of` hands back (document 01, "Draws", "When the unit says no"; the order, demand 3).
+-- `rand_slice`: when it is refused, and with which number; where an answer's start lies; the same answer at every larger budget. And the
+-- part of a list that `window_of` hands back (document 01, "Draws", "When the unit says no"; the order, demand 3).
 use mathlib.Core.Path.{_≡_, sym, _∙_, ap}
 use mathlib.Core.List.{List, []}
 use mathlib.Core.Logic.{_↔_, Iff·trans, _⊎_, inl, inr, ⊎-elim}
@@ -11,6 +11,7 @@ use lib.ListN.{length, getD, drop, length-drop}
 use lib.Seq.{length-take-le, getD-take, getD-drop}
 use Rattle.words.specs.Refusal.{answered, empty, tooLong, outOfBudget}
 use Rattle.words.specs.Refusal as refusal
+use Rattle.words.specs.declared.outcome.Outcome.{Outcome}
 use Rattle.words.specs.Draw.{Words}
 use Rattle.words.specs.GoodWord.{NoneGood}
 use Rattle.words.specs.BelowItsBound.{WordSized}
@@ -19,9 +20,11 @@ use Rattle.random.specs.Generator.{wordsOf}
 use Rattle.lists.specs.Limit.{listLimit}
 use Rattle.bounded.specs.Budgeted.{Budgeted, bounded-budgeted}
 use Rattle.lists.specs.Checks.{sliceRefusal}
-use Rattle.lists.specs.CheckLaws.{slice-empty-exactly-if, slice-too-long-exactly-if, slice-window-exactly-if, slice-allowed-exactly-if, slice-not-short}
-use Rattle.lists.specs.CheckedDraws.{unless-budgeted, checked-exactly-if, short-exactly-if, answered-passed, answered-below, answered-uses-a-word}
-use Rattle.lists.specs.Slicing.{sliceBy, startedBy, partOf}
+use Rattle.lists.specs.CheckLaws.{slice-empty-exactly-if, slice-too-long-exactly-if, slice-window-exactly-if}
+use Rattle.lists.specs.CheckLaws.{slice-allowed-exactly-if, slice-not-short}
+use Rattle.lists.specs.CheckedDraws.{unless-budgeted, checked-exactly-if, short-exactly-if, answered-passed, answered-below}
+use Rattle.lists.specs.CheckedDraws.{answered-uses-a-word}
+use Rattle.lists.specs.Slicing.{sliceBy, startOf, startFrom, partOf}
 use Rattle.lists.specs.SlicingLaws.{part-past, part-within}
 
 -- ---- `rand_slice`: a budgeted call, so that "a larger budget never changes an answer given", a refusal is bare, and a budget is kept
@@ -48,7 +51,8 @@ module _ (s : Words) (n window budget : ℕ) where
   start-too-long-exactly-if = Iff·trans (by-checks tooLong (λ e. omega arith) (λ e. omega arith)) (slice-too-long-exactly-if n window)
 
   -- "WINDOW", of a list that is neither,
-  pub start-window-exactly-if : (sliceBy s n window budget .refusal ≡ refusal.window) ↔ ((0 < n) × (n ≤ listLimit) × ((window ≡ 0) ⊎ (n < window)))
+  pub start-window-exactly-if : (sliceBy s n window budget .refusal ≡ refusal.window)
+      ↔ ((0 < n) × (n ≤ listLimit) × ((window ≡ 0) ⊎ (n < window)))
   start-window-exactly-if = Iff·trans (by-checks refusal.window (λ e. omega arith) (λ e. omega arith)) (slice-window-exactly-if n window)
 
   -- "BUDGET", the last: among the words of the budget none is good for the number of starts.
@@ -74,8 +78,8 @@ module _ (s : Words) (n window budget : ℕ) where
 
 -- "a larger budget never changes an answer given": value, words used and next generator
 pub start-larger : (g : Random) (n window b b′ : ℕ) → b ≤ b′ → sliceBy (wordsOf g) n window b .refusal ≡ answered
-    → startedBy g (sliceBy (wordsOf g) n window b′) ≡ startedBy g (sliceBy (wordsOf g) n window b)
-start-larger g n window b b′ h a = ap (startedBy g) (slice-budgeted n window .larger (wordsOf g) b b′ h a)
+    → startFrom g (startOf (sliceBy (wordsOf g) n window b′)) ≡ startFrom g (startOf (sliceBy (wordsOf g) n window b))
+start-larger g n window b b′ h a = ap (λ (o : Outcome). startFrom g (startOf o)) (slice-budgeted n window .larger (wordsOf g) b b′ h a)
 
 -- ---- the part
 

@@ -1,9 +1,10 @@
 // What a list and a window are refused with before a word is drawn; 0 where they are not.
-ghost use Rattle.lists.specs.Promises.{ListRefusalPromise, WindowRefusalPromise, FirstOfPromise};
+ghost use mathlib.Core.Path.{_≡_};
+ghost use Rattle.lists.specs.Checks.{listRefusal, windowRefusal, firstOf};
 
 // A list of n entries: only its length is looked at.
-pub fn list_refusal(n: usize) -> u32
-    ensures { λ r. ⌜ ListRefusalPromise n r ⌝ }
+pub(crate) fn list_refusal(n: usize) -> u32
+    ensures { λ r. ⌜ r ≡ listRefusal n ⌝ }
 {
     if n == 0 {
         return words::refusal::EMPTY;
@@ -15,8 +16,8 @@ pub fn list_refusal(n: usize) -> u32
 }
 
 // A window, in a list of n entries.
-pub fn window_refusal(n: usize, window: usize) -> u32
-    ensures { λ r. ⌜ WindowRefusalPromise n window r ⌝ }
+pub(crate) fn window_refusal(n: usize, window: usize) -> u32
+    ensures { λ r. ⌜ r ≡ windowRefusal n window ⌝ }
 {
     if window == 0 {
         return words::refusal::WINDOW;
@@ -28,8 +29,8 @@ pub fn window_refusal(n: usize, window: usize) -> u32
 }
 
 // The first of two checks that refuses.
-pub fn first_of(first: u32, second: u32) -> u32
-    ensures { λ r. ⌜ FirstOfPromise first second r ⌝ }
+pub(crate) fn first_of(first: u32, second: u32) -> u32
+    ensures { λ r. ⌜ r ≡ firstOf first second ⌝ }
 {
     if first == words::refusal::ANSWERED {
         return second;

@@ -14,8 +14,10 @@ with-table-requires c κs = search needs
 
 returns : tie.Need-returns
 returns c =
-    let a = c .before .before .before in
-    (rw (c .with-table .ensures) (rw (a .before .before .engine-of .ensures) at (a .choose-in .ensures .0)), a .choose-in .ensures .1)
+    let drawn = c .before .before .before in
+    let engine = drawn .before .before .engine-of .ensures in
+    let answer = drawn .choose-in .ensures in
+    (rw (c .with-table .ensures) (rw engine at (answer .0)), answer .1)
 
 pub choose-spec : {M : Type 1} → statement M
 choose-spec =

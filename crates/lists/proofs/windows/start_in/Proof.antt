@@ -1,6 +1,6 @@
 -- `start_in` meets its contract: a draw below what is left of the list, where neither list nor window is refused.
 use mathlib.Core.Path.{_≡_, sym, _∙_}
-use Prim.Native.Nat.{_≤_, _<_}
+use Prim.Native.Nat.{ℕ, _≤_, _<_}
 use native.Mathlib.Omega.{arith}
 use borrow.Author.Needs.{needs}
 use Rattle.lists.specs.Limit.{listLimit}
@@ -11,13 +11,20 @@ use Rattle.lists.specs.CheckedAnswers.{passed-answers, refused-answers}
 use Rattle.lists.proofs.windows.start_in.Statement.{statement}
 use Rattle.lists.proofs.windows.start_in.Tie as tie
 
+-- the list's length and the window, where the number was worked out
+abbrev length-at : tie.After-first-of → ℕ
+length-at c = c .before .before .before .args .n
+
+abbrev window-at : tie.After-first-of → ℕ
+window-at c = c .before .before .before .args .window
+
 -- the number is that of the definition,
-number-is : (c : tie.After-first-of) → c .first-of .result ≡ sliceRefusal (c .before .before .before .args .n) (c .before .before .before .args .window)
+number-is : (c : tie.After-first-of) → c .first-of .result ≡ sliceRefusal (length-at c) (window-at c)
 number-is c = rw (c .before .before .list-refusal .ensures, c .before .window-refusal .ensures) at (c .first-of .ensures)
 
 -- and where it is 0 there is room for the window.
 fine : (c : tie.Then1)
-    → (c .before .before .before .before .args .n ≤ listLimit) × (0 < c .before .before .before .before .args .window) × (c .before .before .before .before .args .window ≤ c .before .before .before .before .args .n)
+    → (length-at (c .before) ≤ listLimit) × (0 < window-at (c .before)) × (window-at (c .before) ≤ length-at (c .before))
 fine c = slice-allowed-exactly-if _ _ .0 (sym (number-is (c .before)) ∙ c .if1 .taken)
 
 list-refusal-requires : tie.Need-list-refusal-requires
