@@ -8,7 +8,7 @@ use native.Mathlib.Nat.{lt-of-not-le}
 use native.Mathlib.Omega.{arith}
 use borrow.Author.Tests.{lt-ltb, le-ltb}
 use lib.Dec.{ltb}
-use lib.ListN.{length, take, drop}
+use lib.ListN.{length, take, drop, length-append}
 use lib.Seq.{take-append-seam}
 use Rattle.words.specs.Refusal.{answered}
 use Rattle.words.specs.Draw.{Words, Drawn, all, short, outcomeOf}
@@ -43,6 +43,9 @@ pub draws-fit : (n budget : ℕ) → n ≤ listLimit → shuffleDraws n budget �
 unfolding shuffleDraws
 draws-fit n budget h = rw (le-ltb listLimit n h)
 
+pub draws-made : {count : ℕ} (n budget : ℕ) → n ≤ listLimit → count ≡ n - 1 → drawsBelow n count budget ≡ shuffleDraws n budget
+draws-made n budget h e = ap (λ (x : ℕ). drawsBelow n x budget) e ∙ sym (draws-fit n budget h)
+
 -- ---- the loop
 
 -- The draws d stand at the turn t, and the list l₀ has become l by the swaps of those settled.
@@ -61,28 +64,49 @@ pub performing-length : {g : Random} {d : Draws} {l₀ : List ℕ} {t : Turn} {c
 performing-length {g} {d} {l₀} {t} h =
     ap length (h .list) ∙ length-arranged (d .count) (valuesAfter (wordsOf g) (d .first) (d .falls) (t .used)) l₀
 
-module _ {g : Random} {d : Draws} {l₀ : List ℕ} {t : Turn} (mt block : List ℕ) {t′ : Turn} {mt′ block′ l : List ℕ}
-    (h : Performing g d l₀ t (joinedWith (t .next) mt) l) (p : TakeTurnPromise d t mt block t′ mt′ block′) where
+-- A turn with its swaps: the list l has become l′ by those of the values that the turn settled.
+pub record TurnSwapped (d : Draws) (t : Turn) (mt l block : List ℕ) (t′ : Turn) (mt′ l′ block′ : List ℕ) : Type 0 where
+  pub turn : TakeTurnPromise d t mt block t′ mt′ block′
+  pub list : l′ ≡ arranged (d .count - t .settled) (valuesTaken d t (wordsOf (joinedWith (t .next) mt)) (wordsTaken d t (length block))) l
+
+-- what the code of such a turn builds: the block begins with the turn's values
+module _ {t′ : Turn} {mt′ block′ : List ℕ} (d : Draws) (t : Turn) (mt block : List ℕ) (p : TakeTurnPromise d t mt block t′ mt′ block′) where
   abbrev vs : List ℕ
   vs = valuesTaken d t (wordsOf (joinedWith (t .next) mt)) (wordsTaken d t (length block))
 
-  -- the block begins with the turn's values
-  pub places-there : {n : ℕ} → n ≡ t′ .settled - t .settled → take n block′ ≡ vs
-  places-there e =
+  values-there : take (t′ .settled - t .settled) block′ ≡ vs
+  values-there =
       let settled = p .settled in
-      let m : _ ≡ length vs = e ∙ (omega arith) in
+      let m : t′ .settled - t .settled ≡ length vs = omega arith in
       rw (m, p .holds, append-assoc) (take-append-seam vs _)
 
-  pub performing-on : {l′ : List ℕ} → t .settled < d .count → l′ ≡ arranged (d .count - t .settled) vs l
-      → Performing g d l₀ t′ (joinedWith (t′ .next) mt′) l′
-  performing-on more e = record {
-    standing = standing-on mt block (h .standing) p more;
-    list = e ∙ ap (λ (x : ℕ). arranged (d .count - x) vs l) (h .standing .settled) ∙ ap (arranged (d .count - length before) vs) (h .list)
-        ∙ sym (arranged-append (d .count) before vs l₀) ∙ ap (λ (x : List ℕ). arranged (d .count) x l₀) (sym (values-on mt block (h .standing) p));
-  }
-    where
-      before : List ℕ
-      before = valuesAfter (wordsOf g) (d .first) (d .falls) (t .used)
+  pub turn-swapped : {last : ℕ} {l l′ : List ℕ} → last ≡ d .count - t .settled → l′ ≡ arranged last (take (t′ .settled - t .settled) block′) l
+      → TurnSwapped d t mt l block t′ mt′ l′ block′
+  turn-swapped e q = record { turn = p; list = rw (values-there, e) at q }
+
+  -- and there is room for them in it
+  pub turn-room : t′ .settled - t .settled ≤ length block′
+  turn-room =
+      let settled = p .settled in
+      let held = ap length (p .holds) in
+      let long = simp (length-append, append-assoc) at held in
+      omega (arith, long)
+
+pub performing-on : {g : Random} {d : Draws} {l₀ : List ℕ} {t t′ : Turn} {mt′ block′ l l′ : List ℕ} (mt block : List ℕ)
+    → Performing g d l₀ t (joinedWith (t .next) mt) l → TurnSwapped d t mt l block t′ mt′ l′ block′ → t .settled < d .count
+    → Performing g d l₀ t′ (joinedWith (t′ .next) mt′) l′
+performing-on {g} {d} {l₀} {t} {l = l} mt block h p more = record {
+  standing = standing-on mt block (h .standing) (p .turn) more;
+  list = p .list ∙ ap (λ (x : ℕ). arranged (d .count - x) vs l) (h .standing .settled) ∙ ap (arranged (d .count - length before) vs) (h .list)
+      ∙ sym (arranged-append (d .count) before vs l₀)
+      ∙ ap (λ (x : List ℕ). arranged (d .count) x l₀) (sym (values-on mt block (h .standing) (p .turn)));
+}
+  where
+    before : List ℕ
+    before = valuesAfter (wordsOf g) (d .first) (d .falls) (t .used)
+
+    vs : List ℕ
+    vs = valuesTaken d t (wordsOf (joinedWith (t .next) mt)) (wordsTaken d t (length block))
 
 -- ---- what it comes to
 

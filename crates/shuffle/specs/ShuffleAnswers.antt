@@ -36,7 +36,7 @@ module _ (s : Words) (n budget : ℕ) where
     by-rehearsal : {o : Outcome} {b : Bool} → d .complete ≡ b
         → ((drawn : Drawn) → d ≡ rehearsedOf drawn → rehearsedOf drawn .complete ≡ b → o ≡ outcomeOf (λ places. 0) drawn) → o ≡ shuffleBy s n budget
     by-rehearsal q said =
-        let same = told ∙ rw (draws-fit n budget fits) in
+        let same : d ≡ rehearsedOf (placesDrawn s n budget) = rw (draws-fit n budget fits) at told in
         said (placesDrawn s n budget) same (sym (ap (λ (x : Rehearsed). x .complete) same) ∙ q) ∙ sym (shuffle-drawn s budget n fits)
 
     -- and all are settled,

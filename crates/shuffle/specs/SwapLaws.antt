@@ -1,12 +1,14 @@
 -- The laws of swaps: by their cases, the length that stays, and one place more.
-use mathlib.Core.Path.{_≡_, refl, _∙_, ap}
+use mathlib.Core.Path.{_≡_, refl, sym, _∙_, ap}
 use mathlib.Core.Bool.{Bool, true, false, cond, _&&_}
 use mathlib.Core.List.{List, [], _∷_, _++_}
 use Prim.Native.Nat.{ℕ, suc, _+_, _-_, _≤_, _<_}
 use native.Mathlib.Omega.{arith}
 use borrow.Author.Tests.{lt-ltb, le-ltb}
 use lib.Dec.{ltb}
-use lib.ListN.{length, getD, set, length-set}
+use native.Mathlib.Numerals.{add-one}
+use lib.ListN.{length, getD, set, take, length-set}
+use lib.Seq.{length-take-le, take-all, take-suc}
 use Rattle.shuffle.specs.Swap.{swapped, arranged}
 
 module _ (l : List ℕ) (i j : ℕ) where
@@ -60,3 +62,31 @@ arranged-append i [] ks l = let z : i - 0 ≡ i = omega arith in rw z
 arranged-append i (j ∷ js) ks l =
     let z : i - 1 - length js ≡ i - suc (length js) = omega arith in
     arranged-append (i - 1) js ks (swapped l i j) ∙ ap (λ (n : ℕ). arranged n ks (arranged (i - 1) js (swapped l i j))) z
+
+-- ---- the loop over places
+
+-- The first i of the places are swapped for, and `at` is the next one's partner.
+pub record Arranging (last : ℕ) (places : List ℕ) (i at : ℕ) (l₀ l : List ℕ) : Type 0 where
+  pub within : i ≤ length places
+  pub here : at ≡ last - i
+  pub list : l ≡ arranged last (take i places) l₀
+
+pub arranging-start : (last : ℕ) (places l : List ℕ) → Arranging last places 0 last l l
+arranging-start last places l = record { within = omega arith; here = omega arith; list = sym (arranged-none last l) }
+
+module _ {last : ℕ} {places : List ℕ} {i at : ℕ} {l₀ l : List ℕ} (h : Arranging last places i at l₀ l) where
+  pub arranging-on : {l′ : List ℕ} {at′ : ℕ} → i < length places → l′ ≡ swapped l at (getD places i 0) → at′ ≡ at - 1 → Arranging last places (i + 1) at′ l₀ l′
+  arranging-on more e q =
+      let here = h .here in
+      let long : length (take i places) ≡ i = length-take-le i places (h .within) in
+      record {
+        within = omega arith;
+        here = omega arith;
+        list = e ∙ rw (h .list, here, add-one, take-suc places i 0 more, arranged-more, long);
+      }
+
+  pub arranging-length : length l ≡ length l₀
+  arranging-length = ap length (h .list) ∙ length-arranged last (take i places) l₀
+
+  pub arranging-done : length places ≤ i → l ≡ arranged last places l₀
+  arranging-done end = h .list ∙ ap (λ (x : List ℕ). arranged last x l₀) (take-all i places end)

@@ -1,6 +1,8 @@
 // The swaps of a shuffle.
 ghost use mathlib.Core.Path.{_≡_};
+ghost use Prim.Native.Nat.{_<_};
 ghost use Rattle.shuffle.specs.Performing.{shuffleDraws};
+ghost use Rattle.shuffle.specs.PerformingLaws.{TurnSwapped};
 ghost use Rattle.shuffle.specs.Promises.{PerformInPromise};
 use crate::arranging::arrange;
 use lists::limit::LIST_LIMIT;
@@ -40,6 +42,18 @@ pub(crate) fn draws_of(n: usize, budget: u32) -> Draws
     }
 }
 
+// A turn of the draws, with the swaps of those that it settles.
+fn swap_turn(d: Draws, t: Turn, mt: &mut [u32; 624], list: &mut [u32], block: &mut [u32]) -> Turn
+    requires { ⌜ t .settled < d .count ⌝ }
+    ensures { λ r. ⌜ TurnSwapped d t (now (mt .entry)) (now (list .entry)) (now (block .entry)) r (now (mt .exit)) (now (list .exit)) (now (block .exit)) ⌝ }
+{
+    let last = (d.count - t.settled) as usize;
+    let next = rehearsal::take_turn(d, t, mt, block);
+    let fresh = (next.settled - t.settled) as usize;
+    arrange(list, last, &block[..fresh]);
+    next
+}
+
 // The draws of a shuffle with their swaps, as far as the words of the budget go, and the engine after those words: the whole shuffle where
 // `outcome_in` is answered with this budget.
 pub fn perform_in(e: Engine, mt: &mut [u32; 624], list: &mut [u32], budget: u32) -> Engine
@@ -56,10 +70,7 @@ pub fn perform_in(e: Engine, mt: &mut [u32; 624], list: &mut [u32], budget: u32)
         if d.budget <= t.used {
             return t.next;
         }
-        let before = t.settled;
-        t = rehearsal::take_turn(d, t, mt, &mut block);
-        let fresh = (t.settled - before) as usize;
-        arrange(list, (d.count - before) as usize, &block[..fresh]);
+        t = swap_turn(d, t, mt, list, &mut block);
     }
     t.next
 }
