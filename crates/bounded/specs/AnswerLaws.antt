@@ -61,6 +61,7 @@ raised-answers {a} n g o h small told sum built =
 
 -- ---- a draw below r over a lent table: what it owes, by its ways out
 
+-- the answer is that of the draw, and where there is one its value is below r
 abbrev pub Draws : Random → ℕ → ℕ → EngineAnswer → List ℕ → Type 0
 Draws g r budget a m = (joinedAnswer a m ≡ answerFrom g (boundedBy (wordsOf g) r budget)) × Below r a
 

@@ -19,16 +19,17 @@ use Rattle.random.specs.Generator.{wordsOf}
 use Rattle.bounded.specs.Answers.{answerFrom}
 use Rattle.bounded.specs.Ranges.{rangeBy, charBy}
 
--- "Every refusal gives its number, value 0 and 0 words used" (document 01): what a call that is not answered tells.
+-- The call is not answered.
 abbrev pub Refused : Outcome → Type 0
 Refused o = o .refusal ≡ answered → ⊥
 
+-- What every call within a budget obeys.
 pub record Budgeted (call : Words → ℕ → Outcome) : Type 0 where
   -- "a larger budget never changes an answer given" (the order, demand 3)
   pub larger : (s : Words) (b b′ : ℕ) → b ≤ b′ → call s b .refusal ≡ answered → call s b′ ≡ call s b
-  -- "0 words used": so a refusal leaves its generator where it was
+  -- "Every refusal gives .. 0 words used" (document 01): so it leaves its generator where it was
   pub unused : (s : Words) (b : ℕ) → Refused (call s b) → call s b .used ≡ 0
-  -- "value 0"
+  -- ".. value 0"
   pub valueless : (s : Words) (b : ℕ) → Refused (call s b) → call s b .value ≡ 0
   -- "A budget .. is for the whole call" (document 01)
   pub within : (s : Words) (b : ℕ) → call s b .used ≤ b

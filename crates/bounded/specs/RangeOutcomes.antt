@@ -20,6 +20,7 @@ use Rattle.bounded.specs.RangeLaws.{range-order, range-drawn}
 
 -- ---- a draw below r > 0 with n added
 
+-- which outcomes it may have
 pub data Raised (s : Words) (n r budget : ℕ) : Outcome → Type 0 where
   answers : (k : ℕ) → FirstGood s r budget k → Raised s n r budget (gives (n + quotient r (s k)) (k + 1))
   out-of-budget : NoneGood s r budget → Raised s n r budget (refused outOfBudget)
@@ -40,6 +41,7 @@ raised-only {s} {n} {r} {budget} pos (out-of-budget f) =
 
 -- ---- `random_range`: "min >= max" is refused with 2, and otherwise it is min and a draw below max - min
 
+-- which outcomes it may have
 pub data Ranged (s : Words) (min max budget : ℕ) : Outcome → Type 0 where
   wrong-order : max ≤ min → Ranged s min max budget (refused order)
   drawn : {o : Outcome} → min < max → Raised s min (max - min) budget o → Ranged s min max budget o

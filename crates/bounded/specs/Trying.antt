@@ -18,10 +18,11 @@ pub record TriedFrom (g : Random) (r budget : ℕ) (t : Tried) (h : Random) : Ty
   pub told : Told (wordsOf g) r budget (t .found) (t .value) (t .used)
   pub moved : h ≡ later (t .used) g
 
--- a try that no word settled, and one that the last word did
+-- a try that no word settled,
 abbrev pub untried : ℕ → Engine → Tried
 untried n e = record { found = false; value = 0; used = n; next = e }
 
+-- and one that the last word did
 abbrev pub settledAt : ℕ → ℕ → Engine → Tried
 settledAt v n e = record { found = true; value = v; used = n; next = e }
 

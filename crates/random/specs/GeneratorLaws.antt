@@ -9,7 +9,7 @@ use Rattle.pcg.specs.declared.pcg32.Pcg32 as pcg32-type
 use Rattle.random.specs.declared.backend.Backend.{Backend}
 use Rattle.random.specs.declared.backend.Backend.the-variants.{Xoshiro256PlusPlus, MersenneTwister, Pcg32, Pcg64}
 use Rattle.random.specs.declared.backend.Random.{Random}
-use Rattle.random.specs.Generator.{gen, step, stepBy, widthOf, ownWord, ownBy, wordOf, wordBy, word64Of, word64By, steps64}
+use Rattle.random.specs.Generator.{gen, step, stepBy, widthOf, ownWord, wordOf, wordBy, word64Of, word64By, steps64}
 use Rattle.random.specs.Generator.{later, wordsOf, randOf, u64Of, ownOf}
 use Rattle.random.specs.declared.by_value.Word32.{Word32}
 use Rattle.random.specs.declared.by_value.Word64.{Word64}
@@ -59,6 +59,7 @@ width-positive (Pcg64 p) = omega arith
 
 -- ---- a word of the kind's own width is its word of 64 bits or of 32
 
+-- a word of 32 bits in the place of one of 64
 abbrev pub widened : Word32 → Word64
 widened d = record { word = d .word; next = d .next }
 

@@ -21,6 +21,7 @@ i64-is g w e = rw e
 
 -- ---- words XORed, one after the other: what a loop has after n of them
 
+-- x is the first n words XORed, and cur the generator after them.
 pub record Xored (g : Random) (n x : ℕ) (cur : Random) : Type 0 where
   pub value : x ≡ xorOf (wordsOf g) n
   pub moved : cur ≡ later n g

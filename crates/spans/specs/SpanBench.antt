@@ -20,6 +20,7 @@ between min max words budget says = record { Kind = IntOutcome; gives = intBy (l
 abbrev pub whole : List ℕ → ℕ → IntOutcome → Row
 whole = between (negℤ (pos 2147483648)) (pos 2147483647)
 
+-- the rows
 abbrev pub spanBench : List Row
 spanBench =
     -- over its full span: 0 gives -2147483648, 0x80000000 gives 0, 0xFFFFFFFF gives 2147483647; one raw word, so that budget 0 refuses

@@ -25,6 +25,7 @@ use Rattle.spans.specs.SpanLaws.{span-none, span-whole, span-drawn, raw-
 
 -- ---- from 0 up to `last`: one number takes no word, and the others are the first good word's, below last + 1
 
+-- which outcomes it may have
 pub data Spanned (s : Words) (last budget : ℕ) : Outcome → Type 0 where
   single : last ≡ 0 → Spanned s last budget (gives 0 0)
   answers : (k : ℕ) → 0 < last → FirstGood s (last + 1) budget k → Spanned s last budget (gives (quotient (last + 1) (s k)) (k + 1))
@@ -71,6 +72,7 @@ span-out-of-budget-exactly-if s last budget =
 
 -- ---- `uint`
 
+-- which outcomes it may have: refused with 2, or a draw within the span with min added, or refused with 8
 pub data Uinted (s : Words) (min max budget : ℕ) : Outcome → Type 0 where
   wrong-order : max < min → Uinted s min max budget (refused order)
   drawn : {v n : ℕ} → min ≤ max → Spanned s (max - min) budget (gives v n) → Uinted s min max budget (gives (min + v) n)
@@ -130,6 +132,7 @@ module _ (s : Words) (min max budget : ℕ) where
 
 -- ---- `int` and `range`
 
+-- which outcomes they may have: refused with 2, or a draw within the span counted from min, or refused with 8
 pub data Inted (s : Words) (min max : ℤ) (budget : ℕ) : IntOutcome → Type 0 where
   wrong-order : ltZ max min ≡ true → Inted s min max budget (intRefused order)
   drawn : {v n : ℕ} → ltZ max min ≡ false → Spanned s (gap min max) budget (gives v n) → Inted s min max budget (intGives (min +ℤ pos v) n)

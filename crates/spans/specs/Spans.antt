@@ -28,9 +28,11 @@ uintBy s min max budget = cond (ltb max min) (refused order) (raised min (spanBy
 
 -- ---- with a signed value: what `int` tells is an `IntOutcome`, the code's own
 
+-- "its number, value 0 and 0 words used" (document 01)
 abbrev pub intRefused : ℕ → IntOutcome
 intRefused number = record { refusal = number; value = pos 0; used = 0 }
 
+-- an answered call
 abbrev pub intGives : ℤ → ℕ → IntOutcome
 intGives v n = record { refusal = answered; value = v; used = n }
 

@@ -24,6 +24,7 @@ below r words budget says = record { Kind = Outcome; gives = boundedBy (listed w
 abbrev pub share : ℕ → ℕ → ℕ → Row
 share r q says = number (count (λ w. good r w && eqb (quotient r w) q) (2 ^ 32)) says
 
+-- the rows
 abbrev pub bench : List Row
 bench =
     -- below 3: word 0 is rejected (2^32 mod 3 = 1); 1 gives 0; 0x55555555 gives 0; 0x55555556 gives 1; 0xFFFFFFFF gives 2

@@ -14,20 +14,22 @@ use Rattle.words.specs.OneOutcome.{out-of-budget, bounded-only}
 use Rattle.words.specs.AnswerIsFirst.{first-is-answer}
 use Rattle.words.specs.BelowItsBound.{WordSized, first-below}
 
--- Whether a word settled the draw, its value, and the words taken: up to the good one, or else the whole budget (none where r is 0, for
--- which no word is good).
+-- What is told of a draw: whether a word settled it,
 abbrev pub foundOf : Found → Bool
 foundOf (at k) = true
 foundOf nowhere = false
 
+-- its value, 0 where no word settled it,
 abbrev pub valueOf : Words → ℕ → Found → ℕ
 valueOf s r (at k) = quotient r (s k)
 valueOf s r nowhere = 0
 
+-- and the words taken: up to the good one, or else the whole budget (none where r is 0, for which no word is good).
 abbrev pub takenOf : ℕ → ℕ → Found → ℕ
 takenOf r budget (at k) = k + 1
 takenOf r budget nowhere = cond (eqb r 0) 0 budget
 
+-- b, v and n are these three.
 pub record Told (s : Words) (r budget : ℕ) (b : Bool) (v n : ℕ) : Type 0 where
   pub found : b ≡ foundOf (firstGood s r budget)
   pub value : v ≡ valueOf s r (firstGood s r budget)

@@ -12,6 +12,7 @@ use Rattle.words.specs.SettledNeverFalls.{as-many-values}
 use Rattle.words.specs.OneOutcomeOfDraws.{draws-settled, draws-short}
 use Rattle.words.specs.DrawAfterDraw.{prepend, draw-after-draw, next-draw}
 
+-- The draw below r after those below rs: what they came to, and the word that settled it.
 pub record InTurn (s : Words) (rs : List ℕ) (r budget : ℕ) (vs : List ℕ) : Type 0 where
   pub earlier : List ℕ
   pub used : ℕ

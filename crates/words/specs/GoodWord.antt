@@ -9,10 +9,11 @@ use borrow.Author.Tests.{leb-true, leb-false, le-leb, lt-leb}
 use Rattle.words.specs.Draw.{Words, good, Found, at, nowhere, firstGood}
 use Rattle.words.specs.FirstPlace.{Searched, hit, miss, searched, searched-only}
 
--- "[its] product with r leaves at least 2^32 mod r when divided by 2^32" (the order, demand 3); and that it leaves less.
+-- "[its] product with r leaves at least 2^32 mod r when divided by 2^32" (the order, demand 3);
 abbrev pub Passes : ℕ → ℕ → Type 0
 Passes r w = 2 ^ 32 % r ≤ (w * r) % 2 ^ 32
 
+-- and that it leaves less.
 abbrev pub Fails : ℕ → ℕ → Type 0
 Fails r w = (w * r) % 2 ^ 32 < 2 ^ 32 % r
 

@@ -6,24 +6,31 @@ use Prim.Native.Nat.{ℕ}
 abbrev pub answered : ℕ
 answered = 0
 
+-- ZERO RANGE: `bounded` by 0
 abbrev pub zeroRange : ℕ
 zeroRange = 1
 
+-- ORDER: the ends of a range the wrong way round
 abbrev pub order : ℕ
 order = 2
 
+-- CHANCE: p is NaN, below 0 or above 1
 abbrev pub chance : ℕ
 chance = 3
 
+-- EMPTY: `choose` or `rand_slice` on an empty list
 abbrev pub empty : ℕ
 empty = 4
 
+-- TOO LONG: a list above the limit
 abbrev pub tooLong : ℕ
 tooLong = 5
 
+-- WINDOW: window 0, or longer than the list
 abbrev pub window : ℕ
 window = 6
 
+-- NOT FINITE: an end of `uniform` is NaN or infinite, or high - low overflows
 abbrev pub notFinite : ℕ
 notFinite = 7
 
@@ -31,11 +38,14 @@ notFinite = 7
 abbrev pub outOfBudget : ℕ
 outOfBudget = 8
 
+-- NO SPLIT: `split` on kinds 1, 2, 3
 abbrev pub noSplit : ℕ
 noSplit = 9
 
+-- KIND: a kind above 3
 abbrev pub kind : ℕ
 kind = 10
 
+-- SEED LENGTH: a byte seed not of the kind's length
 abbrev pub seedLength : ℕ
 seedLength = 11

@@ -4,11 +4,13 @@ use mathlib.Core.Path.{_≡_}
 use mathlib.Core.List.{List, [], _∷_, _++_}
 
 infixr 20 _&_
+-- what the definitions give, and what the document says
 pub record Row : Type 1 where
   pub Kind : Type 0
   pub gives : Kind
   pub says : Kind
 
+-- every row gives what it says
 pub data Holds : List Row → Type 1 where
   end : Holds []
   _&_ : {row : Row} {rows : List Row} → row .gives ≡ row .says → Holds rows → Holds (row ∷ rows)

@@ -25,11 +25,11 @@ accept-in-requires c κs = search needs
 returns : tie.Need-returns
 returns c =
     let good = c .before .before .before in
-    let word = good .before .before .next-ready in
-    let ready = good .before .before .before .before in
+    let drawn = good .before .before in
+    let ready = drawn .before .before in
     let asked = ready .before in
-    draws-first _ _ _ (asked .before .if1 .taken)
-    (word .ensures ∙ drawn-surely _ _ (asked .surely-ready .ensures) (ready .if2 .taken)) (omega (arith, word .ok))
+    let sure = drawn-surely _ _ (asked .surely-ready .ensures) (ready .if2 .taken) in
+    draws-first _ _ _ (asked .before .if1 .taken) (drawn .next-ready .ensures ∙ sure) (omega (arith, drawn .next-ready .ok))
     (good .before .is-good .ensures) (good .if3 .taken) (c .before .quotient .ensures) (c .accept-in .ensures)
 
 settle-requires : tie.Need-settle-requires

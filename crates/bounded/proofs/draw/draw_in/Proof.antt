@@ -36,12 +36,14 @@ quotient-requires c κs = search needs
 
 returns-2 : tie.Need-returns-2 Inv-loop μ-loop
 returns-2 c =
-    let d = c .before .before .before .before in
-    let l = d .before .before .before in
-    let pos : 0 < l .before .before .args .r = omega (arith, l .before .if1 .left) in (
-      trying-good (l .loop .inv) _ (d .before .before .loop-test .taken) (d .next-u32 .ensures)
-          (c .before .before .is-good .ensures) (c .before .if2 .taken) (c .quotient .ensures),
-      λ q. rw (c .quotient .ensures) (quotient-below _ _ pos (omega (arith, d .next-u32 .ok))),
+    let good = c .before in
+    let word = good .before .before .before in
+    let test = word .before .before in
+    let round = test .before in
+    let pos : 0 < round .before .before .args .r = omega (arith, round .before .if1 .left) in (
+      trying-good (round .loop .inv) _ (test .loop-test .taken) (word .next-u32 .ensures)
+          (good .before .is-good .ensures) (good .if2 .taken) (c .quotient .ensures),
+      λ q. rw (c .quotient .ensures) (quotient-below _ _ pos (omega (arith, word .next-u32 .ok))),
     )
 
 loop-less : tie.Need-loop-less Inv-loop μ-loop
@@ -49,15 +51,15 @@ loop-less c = search needs
 
 loop-again : tie.Need-loop-again Inv-loop μ-loop
 loop-again c =
-    let d = c .before .before .before in
-    let l = d .before .before .before in
-    trying-bad (l .loop .inv) (d .before .before .loop-test .taken) (d .next-u32 .ensures) (c .before .is-good .ensures) (c .if2 .left)
+    let word = c .before .before .before in
+    let test = word .before .before in
+    trying-bad (test .before .loop .inv) (test .loop-test .taken) (word .next-u32 .ensures) (c .before .is-good .ensures) (c .if2 .left)
 
 returns-3 : tie.Need-returns-3 Inv-loop μ-loop
 returns-3 c =
-    let l = c .before in
-    let pos : 0 < l .before .before .args .r = omega (arith, l .before .if1 .left) in
-    (trying-out (l .loop .inv) _ pos (c .loop-test .left), λ q. absurd (true≢false (sym q)))
+    let round = c .before in
+    let pos : 0 < round .before .before .args .r = omega (arith, round .before .if1 .left) in
+    (trying-out (round .loop .inv) _ pos (c .loop-test .left), λ q. absurd (true≢false (sym q)))
 
 pub draw-in-spec : {M : Type 1} → statement M
 draw-in-spec =

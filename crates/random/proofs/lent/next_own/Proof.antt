@@ -13,8 +13,8 @@ next-u64-requires c κs = search needs
 
 returns : tie.Need-returns
 returns c =
-    let wide = sym (c .before .before .before .width .ensures) ∙ c .before .before .if1 .taken in
-    c .next-u64 .ensures ∙ own-wide _ wide
+    let test = c .before .before in
+    c .next-u64 .ensures ∙ own-wide _ (sym (test .before .width .ensures) ∙ test .if1 .taken)
 
 next-u32-requires : tie.Need-next-u32-requires
 next-u32-requires c κs = search needs
@@ -24,8 +24,9 @@ cast-t10 c = search needs
 
 returns-2 : tie.Need-returns-2
 returns-2 c =
-    let test = c .before .before .before .before in
-    ap widened (c .before .before .next-u32 .ensures) ∙ own-narrow _ (λ e. test .if1 .left (test .before .width .ensures ∙ e))
+    let drawn = c .before .before in
+    let test = drawn .before .before in
+    ap widened (drawn .next-u32 .ensures) ∙ own-narrow _ (λ e. test .if1 .left (test .before .width .ensures ∙ e))
 
 pub next-own-spec : {M : Type 1} → statement M
 next-own-spec =

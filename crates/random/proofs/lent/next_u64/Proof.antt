@@ -52,7 +52,8 @@ answer64-requires-4 c κs = search needs
 returns : tie.Need-returns
 unfolding u64Of word64Of later step
 returns c =
-    rw (c .before .before .before .before .backend .given .1, c .answer64 .ensures, c .before .before .next-u64 .ensures)
+    let drawn = c .before .before in
+    rw (drawn .before .before .backend .given .1, c .answer64 .ensures, drawn .next-u64 .ensures)
 
 returns-2 : tie.Need-returns-2
 unfolding u64Of word64Of later step twister.drawn64
@@ -63,12 +64,14 @@ returns-2 c =
 returns-3 : tie.Need-returns-3
 unfolding u64Of word64Of later step
 returns-3 c =
-    rw (c .before .before .before .before .backend2 .given .1, c .answer643 .ensures, c .before .before .next-u642 .ensures)
+    let drawn = c .before .before in
+    rw (drawn .before .before .backend2 .given .1, c .answer643 .ensures, drawn .next-u642 .ensures)
 
 returns-4 : tie.Need-returns-4
 unfolding u64Of word64Of later step
 returns-4 c =
-    rw (c .before .before .before .before .backend3 .given .1, c .answer644 .ensures, c .before .before .next-u643 .ensures)
+    let drawn = c .before .before in
+    rw (drawn .before .before .backend3 .given .1, c .answer644 .ensures, drawn .next-u643 .ensures)
 
 pub next-u64-spec : {M : Type 1} → statement M
 next-u64-spec =

@@ -29,8 +29,9 @@ loop-less c = omega arith
 
 loop-again : tie.Need-loop-again Inv-loop μ-loop
 loop-again c =
-    let loop = c .before .before .before .before .before .loop in
-    let drawn = c .before .before .next-u32 in
+    let after = c .before .before in
+    let loop = after .before .before .before .loop in
+    let drawn = after .next-u32 in
     let here = joinedWith (loop .next) (loop .mt) in
     let word = joinedWord (drawn .result) (drawn .last .1 .0) in
     (omega arith, xored-more _ (loop .n) (loop .word) here word (loop .inv .1) (drawn .ensures))

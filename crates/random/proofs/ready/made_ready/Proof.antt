@@ -32,8 +32,10 @@ unfolding madeReady
 returns-2 c = rw (c .enum-told .given .1)
 
 returns-3 : tie.Need-returns-3
-returns-3 c = rw (c .before .before .before .enum-told2 .given .1, c .engine-with .ensures)
-    (twister-made _ _ _ _ (c .before .before .before .before .before .if1 .left) (c .before .twist-in .ensures))
+returns-3 c =
+    let kind = c .before .before .before in
+    rw (kind .enum-told2 .given .1, c .engine-with .ensures)
+    (twister-made _ _ _ _ (kind .before .before .if1 .left) (c .before .twist-in .ensures))
 
 returns-4 : tie.Need-returns-4
 unfolding madeReady

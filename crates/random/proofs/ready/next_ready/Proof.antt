@@ -37,8 +37,10 @@ answer-requires-2 : tie.Need-answer-requires-2
 answer-requires-2 c κs = search needs
 
 returns : tie.Need-returns
-returns c = rw (c .before .before .before .before .enum-told .given .1, c .answer2 .ensures)
-    (twister-ready _ _ _ (c .before .before .before .if1 .taken) (c .before .temper-word .ensures))
+returns c =
+    let below = c .before .before .before in
+    rw (below .before .enum-told .given .1, c .answer2 .ensures)
+    (twister-ready _ _ _ (below .if1 .taken) (c .before .temper-word .ensures))
 
 answer-requires-3 : tie.Need-answer-requires-3
 answer-requires-3 c κs = search needs
@@ -63,18 +65,24 @@ answer-requires-5 c κs = search needs
 
 returns-2 : tie.Need-returns-2
 unfolding drawnReady randOf wordOf step
-returns-2 c = rw (c .before .before .before .before .backend .given .1, c .answer .ensures, c .before .before .next-u32 .ensures)
+returns-2 c =
+    let drawn = c .before .before in
+    rw (drawn .before .before .backend .given .1, c .answer .ensures, drawn .next-u32 .ensures)
 
 returns-3 : tie.Need-returns-3
 returns-3 c = rw (c .before .before .enum-told .given .1, c .answer3 .ensures) (twister-unready _ _ (c .before .if1 .left))
 
 returns-4 : tie.Need-returns-4
 unfolding drawnReady randOf wordOf step
-returns-4 c = rw (c .before .before .before .before .backend2 .given .1, c .answer4 .ensures, c .before .before .next-u322 .ensures)
+returns-4 c =
+    let drawn = c .before .before in
+    rw (drawn .before .before .backend2 .given .1, c .answer4 .ensures, drawn .next-u322 .ensures)
 
 returns-5 : tie.Need-returns-5
 unfolding drawnReady randOf wordOf step
-returns-5 c = rw (c .before .before .before .before .backend3 .given .1, c .answer5 .ensures, c .before .before .next-u323 .ensures)
+returns-5 c =
+    let drawn = c .before .before in
+    rw (drawn .before .before .backend3 .given .1, c .answer5 .ensures, drawn .next-u323 .ensures)
 
 pub next-ready-spec : {M : Type 1} → statement M
 next-ready-spec =
