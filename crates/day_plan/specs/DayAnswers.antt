@@ -1,47 +1,43 @@
--- What the plan of a day over a lent table owes, by its ways out.
+-- What the plan of a day over a lent table owes, by its ways out: the shuffle's, of the day laid out.
 use mathlib.Core.Path.{_≡_, sym, _∙_, ap}
 use mathlib.Core.List.{List}
 use Prim.Native.Nat.{ℕ, _≤_}
 use lib.ListN.{length}
 use Rattle.words.specs.Refusal.{answered}
-use Rattle.words.specs.Draw.{Words, refused}
+use Rattle.words.specs.declared.outcome.Outcome.{Outcome}
+use Rattle.words.specs.Draw.{Words}
 use Rattle.random.specs.declared.engine.Engine.{Engine}
 use Rattle.random.specs.Generator.{wordsOf}
-use Rattle.random.specs.Lent.{lent}
+use Rattle.random.specs.Lent.{joinedWith}
 use Rattle.bounded.specs.declared.answers.EngineAnswer.{EngineAnswer}
-use Rattle.bounded.specs.Answers.{refusing}
-use Rattle.bounded.specs.AnswerLaws.{refusing-answers}
+use Rattle.bounded.specs.Answers.{answerIn}
 use Rattle.lists.specs.Limit.{listLimit}
-use Rattle.shuffle.specs.Shuffle.{shuffleBy}
 use Rattle.shuffle.specs.OneShuffle.{answered-exactly-if}
-use Rattle.shuffle.specs.ShuffleAnswers.{Shuffled}
-use Rattle.shuffle.specs.ShuffleBudgeted.{shuffle-budgeted}
+use Rattle.shuffle.specs.Promises.{OutcomeInPromise, PerformInPromise}
+use Rattle.shuffle.specs.Shuffle.{shuffleBy}
+use Rattle.shuffle.specs.ShuffleAnswers.{shuffled-refused, shuffled-all}
 use Rattle.day_plan.specs.Day.{laidOut}
 use Rattle.day_plan.specs.DayLaws.{laid-length, plan-answered, plan-refused}
 use Rattle.day_plan.specs.Promises.{PlanDayInPromise}
 
 -- only a day within the limit is laid out
-pub answered-fits : {number : ℕ} (s : Words) (n budget : ℕ) → number ≡ shuffleBy s n budget .refusal → number ≡ answered → n ≤ listLimit
-answered-fits s n budget p q = answered-exactly-if s n budget .0 (sym p ∙ q) .0
+pub answered-fits : {o : Outcome} (s : Words) (n budget : ℕ) → o ≡ shuffleBy s n budget → o .refusal ≡ answered → n ≤ listLimit
+answered-fits s n budget told z = answered-exactly-if s n budget .0 (sym (ap (λ (x : Outcome). x .refusal) told) ∙ z) .0
 
--- It is laid out and shuffled,
-pub planned-all : {number : ℕ} {laid : List ℕ} {a : EngineAnswer} {m′ l′ : List ℕ} (e : Engine) (m : List ℕ) (blanks : ℕ) (l : List ℕ) (budget : ℕ)
-    → number ≡ shuffleBy (wordsOf (lent e m)) (length l) budget .refusal → number ≡ answered → laid ≡ laidOut blanks (length l)
-    → Shuffled (lent e m) laid budget a m′ l′
-    → PlanDayInPromise e m l blanks budget a m′ l′
-planned-all {laid = laid} e m blanks l budget p q f (answer, list) =
-    let same : length laid ≡ length l = ap length f ∙ laid-length blanks (length l) in (
-      rw same at answer,
-      rw f at list ∙ sym (plan-answered (wordsOf (lent e m)) blanks l budget (sym p ∙ q)),
-    )
+module _ {o : Outcome} (e : Engine) (mt day : List ℕ) (blanks budget : ℕ) (told : OutcomeInPromise e mt (length day) budget o) where
+  refusal-told : shuffleBy (wordsOf (joinedWith e mt)) (length day) budget .refusal ≡ o .refusal
+  refusal-told = sym (ap (λ (x : Outcome). x .refusal) told)
 
--- or refused.
-pub planned-refused : {number : ℕ} {a : EngineAnswer} (e : Engine) (m : List ℕ) (blanks : ℕ) (l : List ℕ) (budget : ℕ)
-    → number ≡ shuffleBy (wordsOf (lent e m)) (length l) budget .refusal → (number ≡ answered → ⊥) → a ≡ refusing number e
-    → PlanDayInPromise e m l blanks budget a m l
-planned-refused e m blanks l budget p n q =
-    let no-answer : shuffleBy (wordsOf (lent e m)) (length l) budget .refusal ≡ answered → ⊥ = λ z. n (p ∙ z) in
-    let bare = shuffle-budgeted (length l) .bare (wordsOf (lent e m)) budget no-answer in (
-      refusing-answers e m q (bare ∙ ap refused (sym p)),
-      sym (plan-refused (wordsOf (lent e m)) blanks l budget no-answer),
-    )
+  -- The plan is refused, and nothing has changed;
+  pub planned-refused : {a : EngineAnswer} → (o .refusal ≡ answered → ⊥) → a ≡ answerIn o e → PlanDayInPromise e mt day blanks budget a mt day
+  planned-refused n p =
+      let whole = shuffled-refused e mt day budget told n p in
+      (whole .0, sym (plan-refused (wordsOf (joinedWith e mt)) blanks day budget (λ z. n (sym refusal-told ∙ z))))
+
+  -- or the day is laid out, and its shuffle performed.
+  pub planned-all : {a : EngineAnswer} {laid mt′ day′ : List ℕ} {next : Engine} → o .refusal ≡ answered → laid ≡ laidOut blanks (length day)
+      → PerformInPromise e mt laid budget next mt′ day′ → a ≡ answerIn o next → PlanDayInPromise e mt day blanks budget a mt′ day′
+  planned-all {laid = laid} z f p q =
+      let same : length laid ≡ length day = ap length f ∙ laid-length blanks (length day) in
+      let (answer, list) = shuffled-all e mt laid budget (rw same told) z p q in
+      (rw same at answer, rw f at list ∙ sym (plan-answered (wordsOf (joinedWith e mt)) blanks day budget (refusal-told ∙ z)))

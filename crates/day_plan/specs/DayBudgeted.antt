@@ -3,30 +3,25 @@ use mathlib.Core.Path.{_≡_, sym, _∙_}
 use mathlib.Core.List.{List}
 use Prim.Native.Nat.{ℕ, _≤_}
 use lib.ListN.{length}
-use Rattle.words.specs.Refusal as refusal
+use Rattle.words.specs.Refusal.{answered}
 use Rattle.words.specs.Draw.{Words}
 use Rattle.random.specs.declared.backend.Random.{Random}
-use Rattle.random.specs.Generator.{Gen, wordsOf}
-use Rattle.bounded.specs.Answers.{wordsFrom, answered, answeredIn}
-use Rattle.bounded.specs.Budgeted.{answer-larger, answer-larger-in}
+use Rattle.random.specs.Generator.{wordsOf}
+use Rattle.bounded.specs.Answers.{answerFrom}
+use Rattle.bounded.specs.Budgeted.{answer-larger}
 use Rattle.shuffle.specs.Shuffle.{shuffleBy}
 use Rattle.shuffle.specs.ShuffleBudgeted.{shuffle-budgeted, list-larger}
 use Rattle.day_plan.specs.Day.{laidOut, plannedDay}
 use Rattle.day_plan.specs.DayLaws.{laid-length, plan-answered}
 
 module _ (blanks : ℕ) (l : List ℕ) (b b′ : ℕ) (h : b ≤ b′) where
-  pub day-larger : (s : Words) → shuffleBy s (length l) b .refusal ≡ refusal.answered → plannedDay s blanks l b′ ≡ plannedDay s blanks l b
+  pub day-larger : (s : Words) → shuffleBy s (length l) b .refusal ≡ answered → plannedDay s blanks l b′ ≡ plannedDay s blanks l b
   day-larger s a =
       let more = shuffle-budgeted (length l) .larger s b b′ h a in
-      let laid : shuffleBy s (length (laidOut blanks (length l))) b .refusal ≡ refusal.answered = rw (laid-length blanks (length l)) a in
+      let laid : shuffleBy s (length (laidOut blanks (length l))) b .refusal ≡ answered = rw (laid-length blanks (length l)) a in
       plan-answered s blanks l b′ (rw more a) ∙ list-larger s (laidOut blanks (length l)) b b′ h laid ∙ sym (plan-answered s blanks l b a)
 
-  pub plan-larger : (g : Random) → shuffleBy (wordsFrom g) (length l) b .refusal ≡ refusal.answered
-      → (answered g (shuffleBy (wordsFrom g) (length l) b′) ≡ answered g (shuffleBy (wordsFrom g) (length l) b))
-      × (plannedDay (wordsFrom g) blanks l b′ ≡ plannedDay (wordsFrom g) blanks l b)
-  plan-larger g a = (answer-larger (shuffle-budgeted (length l)) b b′ h g a, day-larger (wordsFrom g) a)
-
-  pub plan-larger-in : (g : Gen) → shuffleBy (wordsOf g) (length l) b .refusal ≡ refusal.answered
-      → (answeredIn g (shuffleBy (wordsOf g) (length l) b′) ≡ answeredIn g (shuffleBy (wordsOf g) (length l) b))
+  pub plan-larger : (g : Random) → shuffleBy (wordsOf g) (length l) b .refusal ≡ answered
+      → (answerFrom g (shuffleBy (wordsOf g) (length l) b′) ≡ answerFrom g (shuffleBy (wordsOf g) (length l) b))
       × (plannedDay (wordsOf g) blanks l b′ ≡ plannedDay (wordsOf g) blanks l b)
-  plan-larger-in g a = (answer-larger-in (shuffle-budgeted (length l)) b b′ h g a, day-larger (wordsOf g) a)
+  plan-larger g a = (answer-larger (shuffle-budgeted (length l)) b b′ h g a, day-larger (wordsOf g) a)

@@ -4,7 +4,7 @@ use mathlib.Core.Path.{_≡_, refl}
 use mathlib.Core.List.{List, [], _∷_}
 use Prim.Native.Nat.{ℕ}
 use Rattle.words.specs.Draw.{Words, listed, first, firstGood, draws}
-use Rattle.shuffle.specs.Bounds.{boundsFrom}
+use Rattle.rehearsal.specs.Bounds.{boundsFrom}
 use Rattle.shuffle.specs.Swap.{swapped, arranged}
 use Rattle.shuffle.specs.Shuffle.{shuffleBy, shuffled}
 use Rattle.day_plan.specs.Day.{inletsFrom, laidOut, plannedDay}

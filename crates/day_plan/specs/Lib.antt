@@ -8,7 +8,6 @@ pub mod Promises
 pub mod PromisesLaws
 pub mod ItsShare
 pub mod DayBudgeted
--- For code that asks first, lays a day out and plans it.
+-- For code that lays a day out and plans it.
 pub mod DayLaws
-pub mod Asking
 pub mod DayAnswers

@@ -3,20 +3,20 @@ use mathlib.Core.List.{List}
 use mathlib.Core.Path.{_≡_}
 use Prim.Native.Nat.{ℕ}
 use lib.ListN.{length}
-use Rattle.bounded.specs.Answers.{answered, answeredIn, handed, wordsFrom}
+use Rattle.bounded.specs.Answers.{answerFrom, joinedAnswer}
 use Rattle.bounded.specs.declared.answers.Answer.{Answer}
 use Rattle.bounded.specs.declared.answers.EngineAnswer.{EngineAnswer}
 use Rattle.random.specs.Generator.{wordsOf}
-use Rattle.random.specs.Lent.{lent}
+use Rattle.random.specs.Lent.{joinedWith}
 use Rattle.random.specs.declared.backend.Random.{Random}
 use Rattle.random.specs.declared.engine.Engine.{Engine}
 use Rattle.shuffle.specs.Shuffle.{shuffleBy}
 use Rattle.day_plan.specs.Day.{plannedDay}
 
-abbrev pub PlanDayInPromise : Engine → List ℕ → List ℕ → ℕ → ℕ → EngineAnswer → List ℕ → List ℕ → Type 0
-PlanDayInPromise e mt day blanks budget a mt′ day′ =
-    (handed a mt′ ≡ answeredIn (lent e mt) (shuffleBy (wordsOf (lent e mt)) (length day) budget)) × (day′ ≡ plannedDay (wordsOf (lent e mt)) blanks day budget)
-
+-- The shuffle's answer, and the day after it.
 abbrev pub PlanDayPromise : Random → List ℕ → ℕ → ℕ → Answer → List ℕ → Type 0
 PlanDayPromise g day blanks budget a day′ =
-    (a ≡ answered g (shuffleBy (wordsFrom g) (length day) budget)) × (day′ ≡ plannedDay (wordsFrom g) blanks day budget)
+    (a ≡ answerFrom g (shuffleBy (wordsOf g) (length day) budget)) × (day′ ≡ plannedDay (wordsOf g) blanks day budget)
+
+abbrev pub PlanDayInPromise : Engine → List ℕ → List ℕ → ℕ → ℕ → EngineAnswer → List ℕ → List ℕ → Type 0
+PlanDayInPromise e mt day blanks budget a mt′ day′ = PlanDayPromise (joinedWith e mt) day blanks budget (joinedAnswer a mt′) day′

@@ -1,7 +1,6 @@
 -- `plan_day` meets its contract: the answer over the lent table, and the table joined to it.
-use mathlib.Core.Path.{_∙_}
 use borrow.Author.Needs.{needs}
-use Rattle.bounded.specs.AnswerLaws.{joined-answers}
+use mathlib.Core.Path.{_∙_}
 use Rattle.day_plan.proofs.day.plan_day.Statement.{statement}
 use Rattle.day_plan.proofs.day.plan_day.Tie as tie
 
@@ -21,7 +20,7 @@ returns : tie.Need-returns
 returns c =
     let a = c .before .before .before .before in
     let same = rw (a .before .before .before .engine-of .ensures) at (a .plan-day-in .ensures) in
-    (c .joined .ensures ∙ joined-answers _ _ (a .plan-day-in .result) _ (same .0), same .1)
+    (c .joined .ensures ∙ same .0, same .1)
 
 pub plan-day-spec : {M : Type 1} → statement M
 plan-day-spec =

@@ -1,44 +1,52 @@
--- `plan_day_in` meets its contract: the question is settled first, on a table that is as it came.
+-- `plan_day_in` meets its contract: what the shuffle comes to is known before a slot is touched, on a table that is as it came.
 use borrow.Author.Needs.{needs}
-use Rattle.day_plan.specs.DayAnswers.{answered-fits, planned-all, planned-refused}
+use Rattle.day_plan.specs.DayAnswers.{answered-fits, planned-refused, planned-all}
 use Rattle.day_plan.proofs.day.plan_day_in.Statement.{statement}
 use Rattle.day_plan.proofs.day.plan_day_in.Tie as tie
 
-refusal-of-requires : tie.Need-refusal-of-requires
-refusal-of-requires c κs = search needs
+outcome-in-requires : tie.Need-outcome-in-requires
+outcome-in-requires c κs = search needs
+
+answer-in-requires : tie.Need-answer-in-requires
+answer-in-requires c κs = search needs
+
+returns : tie.Need-returns
+returns c =
+    let o = c .before .before .before in
+    rw (o .outcome-in .ensures .1) (planned-refused _ _ _ _ _ (o .outcome-in .ensures .0) (c .before .if1 .taken) (c .answer-in .ensures))
 
 lay-out-requires : tie.Need-lay-out-requires
-lay-out-requires c κs = let r = c .before .before in answered-fits _ _ _ (r .refusal-of .ensures .0) (c .before .if1 .taken)
+lay-out-requires c κs =
+    let e = c .before in
+    answered-fits _ _ _ (e .before .before .outcome-in .ensures .0) (e .if1 .left)
 
-shuffle-in-requires : tie.Need-shuffle-in-requires
-shuffle-in-requires c κs = search needs
+perform-in-requires : tie.Need-perform-in-requires
+perform-in-requires c κs = search needs
+
+answer-in-requires-2 : tie.Need-answer-in-requires-2
+answer-in-requires-2 c κs = search needs
 
 same-length : tie.Need-same-length
 same-length c = search needs
 
-returns : tie.Need-returns
-returns c =
-    let f = c .before .before in
-    let o = f .before .before .before .before .before in
-    let r = o .before .before .before in
-    planned-all _ _ _ _ _ (r .refusal-of .ensures .0) (o .before .before .if1 .taken) (o .lay-out .ensures) (rw (r .refusal-of .ensures .1) at (f .shuffle-in .ensures))
-
-refuse-in-requires : tie.Need-refuse-in-requires
-refuse-in-requires c κs = search needs
-
 returns-2 : tie.Need-returns-2
 returns-2 c =
-    let r = c .before .before in
-    rw (r .refusal-of .ensures .1) (planned-refused _ _ _ _ _ (r .refusal-of .ensures .0) (c .before .if1 .left) (c .refuse-in .ensures))
+    let p = c .before .before .before in
+    let laid = p .before .before .before .before .before in
+    let e = laid .before .before in
+    let o = e .before .before in
+    let done = rw (o .outcome-in .ensures .1) at (p .perform-in .ensures) in
+    planned-all _ _ _ _ _ (o .outcome-in .ensures .0) (e .if1 .left) (laid .lay-out .ensures) done (c .answer-in2 .ensures)
 
 pub plan-day-in-spec : {M : Type 1} → statement M
 plan-day-in-spec =
     tie.close
     (tie.spec
-    refusal-of-requires
-    lay-out-requires
-    shuffle-in-requires
-    same-length
+    outcome-in-requires
+    answer-in-requires
     returns
-    refuse-in-requires
+    lay-out-requires
+    perform-in-requires
+    answer-in-requires-2
+    same-length
     returns-2)
