@@ -7,9 +7,11 @@ use lib.Arith.{digits-div, digits-mod}
 use Rattle.wrapping.specs.Product.{lowerWord, upperWord}
 use Rattle.wrapping.specs.declared.product.Columns.{Columns}
 
+-- the second column: the product of a's high half and b's low half, with what the first column carries
 abbrev pub secondOf : (a b : ℕ) → ℕ
 secondOf a b = a / 2 ^ 32 * (b % 2 ^ 32) + a % 2 ^ 32 * (b % 2 ^ 32) / 2 ^ 32
 
+-- the three columns; the third has the second's low half beside the product of a's low half and b's high half
 abbrev pub columnsOf : (a b : ℕ) → Columns
 columnsOf a b = record {
   first = a % 2 ^ 32 * (b % 2 ^ 32);
@@ -21,6 +23,7 @@ columnsOf a b = record {
 abbrev pub upperOf : (a b : ℕ) → ℕ
 upperOf a b = a / 2 ^ 32 * (b / 2 ^ 32) + columnsOf a b .second / 2 ^ 32 + columnsOf a b .third / 2 ^ 32
 
+-- the lower word, off the columns
 abbrev pub lowerOf : (a b : ℕ) → ℕ
 lowerOf a b = columnsOf a b .third % 2 ^ 32 * 2 ^ 32 + columnsOf a b .first % 2 ^ 32
 
