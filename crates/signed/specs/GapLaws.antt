@@ -13,6 +13,7 @@ use Rattle.signed.specs.Signed.{orZero, gap}
 
 -- ---- the gap by the signs
 
+-- how far max is above min, in naturals, sign by sign
 abbrev apart : (min max : ℤ) → ℕ
 apart (pos b) (pos a) = a - b
 apart (negsuc b) (pos a) = a + suc b
@@ -117,7 +118,8 @@ gap-small {min} {max} f g = rw (gap-apart min max) (go f g)
     go {min = pos b} {max = negsuc a} f g = omega arith
 
 -- the largest gap is that of the least and the greatest of them, and of no others
-pub gap-full : {min max : ℤ} → SFits w32 min → SFits w32 max → gap min max ≡ 2 ^ 32 - 1 → (min ≡ negsuc (2 ^ 31 - 1)) × (max ≡ pos (2 ^ 31 - 1))
+pub gap-full : {min max : ℤ}
+    → SFits w32 min → SFits w32 max → gap min max ≡ 2 ^ 32 - 1 → (min ≡ negsuc (2 ^ 31 - 1)) × (max ≡ pos (2 ^ 31 - 1))
 gap-full {min} {max} f g e = go f g (sym (gap-apart min max) ∙ e)
   where
     go : {min max : ℤ} → SFits w32 min → SFits w32 max → apart min max ≡ 2 ^ 32 - 1 → (min ≡ negsuc (2 ^ 31 - 1)) × (max ≡ pos (2 ^ 31 - 1))
