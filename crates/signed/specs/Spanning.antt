@@ -1,5 +1,5 @@
--- How the code works out the span of two signed numbers of 32 bits: their difference in 64 bits overflows nothing, and where it is not below
--- zero it is the gap.
+-- How the code works out the span of two signed numbers of 32 bits: their difference in 64 bits overflows nothing, and where it is not
+-- below zero it is the gap.
 use mathlib.Core.Path.{_≡_, refl, sym, _∙_}
 use mathlib.Core.Bool.{Bool, true, false, true≢false}
 use Prim.Native.Nat.{ℕ, zero, suc, _+_, _≤_}
