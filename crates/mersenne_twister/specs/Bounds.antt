@@ -11,11 +11,13 @@ use lib.Bits.{bitAnd, bitXor, and-le-l, xor-lt}
 use lib.ListN.{getD, set, length, List·getD-eq-default}
 use lib.Seq.{getD-set-same, getD-set-other, set-out}
 use Rattle.mersenne_twister.specs.declared.MersenneTwister.{MersenneTwister}
-use Rattle.mersenne_twister.specs.Sequence.{timesA, joined, follow, terms, temper, temper1, temper2, temper3, temper4, seedStep, seedWord}
+use Rattle.mersenne_twister.specs.Sequence.{timesA, joined, follow, terms, temper, temper1, temper2, temper3, temper4, seedStep}
+use Rattle.mersenne_twister.specs.Sequence.{seedWord}
 use Rattle.mersenne_twister.specs.SequenceLaws.{length-terms, terms-at}
 use Rattle.mersenne_twister.specs.Table.{seedTable, stored, renewAt, renewed, drawn, drawn64, after, wordOf}
 use Rattle.mersenne_twister.specs.DrawLaws.{in-low, in-high, word64-is}
 
+-- every entry of t has 32 bits
 abbrev pub Words : (t : List ℕ) → Type 0
 Words t = (j : ℕ) → getD t j 0 < 2 ^ 32
 
@@ -94,6 +96,7 @@ words-renewed (suc n) t w =
 
 -- ---- draws
 
+-- a draw gives a word of 32 bits, and leaves a table of such words
 pub record DrawBounds (g : MersenneTwister) : Type 0 where
   pub word : drawn g .word < 2 ^ 32
   pub table : Words (drawn g .next .mt)
