@@ -21,6 +21,7 @@ finite-tests (fin s m e) = refl
 abbrev pub Infinite : Float → Type 0
 Infinite x = (s : Bool) × (x ≡ inf s)
 
+-- a NaN or an infinity
 abbrev pub NotFinite : Float → Type 0
 NotFinite x = (isNan x ≡ true) ⊎ Infinite x
 

@@ -10,7 +10,8 @@ use lib.Pow.{pow-pos}
 use lib.Ieee.{fin, binary32, binary64, le}
 use lib.Ieee.Order.{le-of-values}
 use Rattle.floats.specs.Units.{dyadic, floatOf, doubleOf}
-use Rattle.floats.specs.DyadicLaws.{Exactly, dyadic-value, dyadic-exact}
+use Rattle.floats.specs.DyadicLaws.{dyadic-value, dyadic-exact}
+use Rattle.floats.specs.ExactValue.{Exactly}
 
 -- `float` is exactly (word >> 8) / 2^24
 pub float-exact : (word : ℕ) → word < 2 ^ 32 → Exactly binary32 (floatOf word) (word / 2 ^ 8) 24
