@@ -24,11 +24,11 @@ use Rattle.random.specs.declared.backend.Backend.{Backend}
 use Rattle.random.specs.declared.backend.Backend.the-variants.{Xoshiro256PlusPlus, MersenneTwister, Pcg32, Pcg64}
 use Rattle.random.specs.declared.engine.EngineWord.{EngineWord}
 use Rattle.random.specs.declared.engine.EngineWord64.{EngineWord64}
-use Rattle.float_draws.specs.Coins.{flipFrom}
+use Rattle.float_draws.specs.Coins.{flipOf, flipFrom}
 use Rattle.float_draws.specs.Spreads.{spreadFrom}
 use Rattle.float_draws.specs.Units.{floatFrom, doubleFrom}
 
--- ---- over a lent table
+-- ---- over a lent table: a word that was drawn, its engine and the table that it left
 
 pub float-in : (g : Random) (r : EngineWord) (t : List ℕ) → joinedWord r t ≡ randOf g
     → record { value = floatOf (r .word); next = joinedWith (r .next) t } ≡ floatFrom g
@@ -55,7 +55,7 @@ steps-narrow (Pcg64 p) e = absurd (e refl)
 
 module _ (g : Random) (p : Float) where
   pub flip-taken : isChance p ≡ true → (r : EngineWord64) (t : List ℕ) → joinedWord64 r t ≡ u64Of g
-      → record { refusal = coinOf p (r .word) .refusal; value = coinOf p (r .word) .value; used = steps64 (g .backend); next = joinedWith (r .next) t } ≡ flipFrom g p
+      → flipOf (coinOf p (r .word)) (steps64 (g .backend)) (joinedWith (r .next) t) ≡ flipFrom g p
   unfolding flipFrom u64Of
   flip-taken c r t h = rw (c, ap (λ (d : Word64). d .word) h, ap (λ (d : Word64). d .next) h)
 
