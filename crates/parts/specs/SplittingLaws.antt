@@ -59,6 +59,7 @@ refusal-by MersenneTwister g = (λ e. absurd (omega arith), λ e. absurd (omega 
 refusal-by (Pcg32 p) g = (λ e. absurd (omega arith), λ e. absurd (omega arith))
 refusal-by (Pcg64 p) g = (λ e. absurd (omega arith), λ e. absurd (omega arith))
 
-pub split-exactly-if : (g : Random) → (splitOf g .refusal ≡ 0 → kindOf (g .backend) ≡ 0) × (kindOf (g .backend) ≡ 0 → splitOf g .refusal ≡ 0)
+pub split-exactly-if : (g : Random)
+    → (splitOf g .refusal ≡ 0 → kindOf (g .backend) ≡ 0) × (kindOf (g .backend) ≡ 0 → splitOf g .refusal ≡ 0)
 unfolding splitOf
 split-exactly-if g = refusal-by (g .backend) g
