@@ -50,7 +50,8 @@ poke-start n i w l =
     let p : i + 0 ≡ i = omega arith in
     rw (e, p)
 
-pub poke-turn : (n k i w : ℕ) (l : List ℕ) → k < n → poke (n - (k + 1)) (i + (k + 1)) (w / 256) (set l (i + k) (w % 256)) ≡ poke (n - k) (i + k) w l
+pub poke-turn : (n k i w : ℕ) (l : List ℕ)
+    → k < n → poke (n - (k + 1)) (i + (k + 1)) (w / 256) (set l (i + k) (w % 256)) ≡ poke (n - k) (i + k) w l
 unfolding poke
 poke-turn n k i w l h =
     let e : n - k ≡ suc (n - (k + 1)) = omega arith in
