@@ -32,6 +32,7 @@ fill-bench-holds = refl & refl & refl & refl & end
 
 -- ---- filling 3 bytes twice is not filling 6: with words of 8 bytes it takes two words, and begins the second word's bytes at place 3
 
+-- two words against one
 pub three-twice-takes-two : (wordsFor 8 3 + wordsFor 8 3 ≡ 2) × (wordsFor 8 6 ≡ 1)
 three-twice-takes-two = (refl, refl)
 
@@ -51,6 +52,7 @@ pub six-at-once : bytesFrom 8 (listed given) 6 ≡ 0x01 ∷ 0x02 ∷ 0x03 ∷ 0x
 unfolding bytesFrom terms
 six-at-once = refl
 
+-- they differ at place 3
 pub three-twice-is-not-six : threeTwice ≡ bytesFrom 8 (listed given) 6 → ⊥
 three-twice-is-not-six e =
     let place-three : _≡_ {A = ℕ} 0x11 0x04 = ap (λ (l : List ℕ). getD l 3 0) (sym three-twice ∙ e ∙ six-at-once) in

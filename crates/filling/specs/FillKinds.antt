@@ -55,6 +55,7 @@ abbrev pub WholeOwnIn : Engine → List ℕ → ℕ → Engine → List ℕ → 
 WholeOwnIn e mt n r mt′ bytes = WholeOwn (joinedWith e mt) n (joinedWith r mt′) bytes
 
 module _ {n : ℕ} {bytes : List ℕ} where
+  -- each kind's words are those of the generator that holds its state
   pub xoshiro-own : (t : twister-type.MersenneTwister) {x next : xoshiro-type.Xoshiro256PlusPlus} → XoshiroWords n x next bytes
       → WholeOwn (gen (Xoshiro256PlusPlus x) t) n (gen (Xoshiro256PlusPlus next) t) bytes
   unfolding ownWord step

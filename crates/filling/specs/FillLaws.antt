@@ -20,6 +20,7 @@ use Rattle.filling.specs.PokeLaws.{length-poke}
 
 -- ---- bytes
 
+-- n bytes are n
 pub length-bytes : (W : ℕ) (s : ℕ → ℕ) (n : ℕ) → length (bytesFrom W s n) ≡ n
 unfolding bytesFrom
 length-bytes W s n = length-terms _ 0 n
@@ -42,6 +43,7 @@ length-filled g n = length-bytes _ _ n
 
 -- ---- the words that they take
 
+-- whole words take themselves
 pub words-whole : (m W : ℕ) → 0 < W → wordsFor W (m * W) ≡ m
 words-whole m W p = digits-div m (omega arith)
 

@@ -34,6 +34,7 @@ pub record Filling {S : Type 0} (word : S → ℕ) (step : S → S) (W : ℕ) (s
 abbrev pub WholeWords : {S : Type 0} → (S → ℕ) → (S → S) → ℕ → S → ℕ → S → List ℕ → Type 0
 WholeWords word step W s n cur bytes = Filling word step W s n (n - n % W) cur bytes
 
+-- nothing is written yet
 pub filling-start : {S : Type 0} (word : S → ℕ) (step : S → S) (W : ℕ) (s : S) (bytes : List ℕ)
     → Filling word step W s (length bytes) 0 s bytes
 unfolding after
@@ -111,6 +112,7 @@ module _ {S T : Type 0} {word : S → ℕ} {step : S → S} (word′ : T → ℕ
       let k = j / W in
       ap (λ (x : ℕ). byteOf x (j % W)) (same-word (after step k s) ∙ ap word′ (same-after k s))
 
+  -- so what the one has filled, the other has
   pub filling-part : {W : ℕ} {s : S} {n i : ℕ} {cur : S} {bytes : List ℕ}
       → Filling word step W s n i cur bytes → Filling word′ step′ W (f s) n i (f cur) bytes
   filling-part {W} {s} h =

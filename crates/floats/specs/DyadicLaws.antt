@@ -48,6 +48,7 @@ dyadic-odd n k o = rw (ne-eqb (n % 2) 0 (λ e. omega arith))
 
 -- ---- its value
 
+-- halving an even n keeps it, and an odd one is n * 2 ^ -k as it stands
 pub dyadic-value : (n k : ℕ) → n < 2 ^ k → HasValue (dyadic n k) false n (2 ^ k)
 unfolding dyadic
 dyadic-value n zero h = (refl, only-zero n h)
@@ -81,6 +82,7 @@ odd-fits f (suc m) k o h p l =
     all-four (eqb (n % 2) 1) (ltb n (2 ^ prec f)) (leb u (2 ^ low f)) (ltb (n * 1) (t * u))
     (eq→eqb o) (lt→ltb n (2 ^ prec f) p) (le→leb u (2 ^ low f) (pow-mono l)) (lt→ltb (n * 1) (t * u) under)
 
+-- by the same halving
 pub dyadic-fits : (f : Format) (n k : ℕ) → n < 2 ^ k → n < 2 ^ prec f → k ≤ low f → T (fits f (dyadic n k))
 unfolding dyadic
 dyadic-fits f n zero h p l = unfold fits in tt
@@ -91,5 +93,6 @@ dyadic-fits f n (suc k) h p l =
       | inr odd ↦ rw (dyadic-odd n k odd) (odd-fits f n k odd h p l)
     ]
 
+-- so it is n / 2 ^ k with nothing lost
 pub dyadic-exact : (f : Format) (n k : ℕ) → n < 2 ^ k → n < 2 ^ prec f → k ≤ low f → Exactly f (dyadic n k) n k
 dyadic-exact f n k h p l = record { held = dyadic-fits f n k h p l; value = dyadic-value n k h }

@@ -58,6 +58,7 @@ exact-product f (fin false m e) n k v p l =
     less : (a b : ℕ) → a - b ≤ a
     less a b = omega arith
 
+-- both are n / 2 ^ (k + 1) with nothing lost, so they are one float
 pub exact-draw : (f : Format) (n k : ℕ) → n < 2 ^ prec f → n < 2 ^ suc k → suc k ≤ low f
     → mul f (ofInt f (pos n)) (fin false 1 (negsuc k)) ≡ dyadic n (suc k)
 unfolding ofInt

@@ -61,5 +61,6 @@ value-unique f (fin t m e) (fin u n d) s a c C p q v w =
     let sign-same = ap (λ (b : Bool). toBits f (fin b n d)) (v .0 ∙ sym (w .0)) in
     sym (ofBits-toBits f (fin t m e) p) ∙ ap (ofBits f) (bits-same f t m e n d size-same ∙ sign-same) ∙ ofBits-toBits f (fin u n d) q
 
+-- at most one float is n / 2 ^ k with nothing lost
 pub one-such : {f : Format} {x y : Float} {n k : ℕ} → Exactly f x n k → Exactly f y n k → x ≡ y
 one-such {f} {x} {y} {n} {k} p q = value-unique f x y false n (2 ^ k) (pow-pos k) (p .held) (q .held) (p .value) (q .value)

@@ -38,6 +38,7 @@ double-never-above word h =
     let under : word / 2 ^ 11 ≤ 2 ^ 53 - 1 = omega arith in
     dyadic-le (word / 2 ^ 11) (2 ^ 53 - 1) 53 under (lit< tt)
 
+-- and never below 0
 pub double-never-below-zero : (word : ℕ) → word < 2 ^ 64 → T (le (fin false 0 (pos 0)) (doubleOf word))
 unfolding dyadic
 double-never-below-zero word h = dyadic-le 0 (word / 2 ^ 11) 53 zero-le (high-bits word h)

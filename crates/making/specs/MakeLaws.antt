@@ -55,13 +55,16 @@ module _ (kind : ℕ) (s : List ℕ) where
 
   -- ---- and each of them only then
 
+  -- the refusal's number of a making that is known
   number : {m : Made} → madeBytes kind s ≡ m → madeBytes kind s .refusal ≡ m .refusal
   number e = ap (λ (m : Made). m .refusal) e
 
+  -- a known kind is not refused with 10
   known : (whole : Bool) (g : Random) → cond whole (answeredMaking g) (refusedMaking refusal.seedLength) .refusal ≡ refusal.kind → ⊥
   known true g e = omega (arith, e)
   known false g e = omega (arith, e)
 
+  -- 10: the kind is above 3
   pub refused-with-kind : madeBytes kind s .refusal ≡ refusal.kind → 3 < kind
   unfolding madeBytes
   refused-with-kind e =
@@ -70,6 +73,7 @@ module _ (kind : ℕ) (s : List ℕ) where
         | yes h ↦ absurd (known (eqb (length s) (seedLengthOf kind)) (ofKind kind s) (rw (le-leb kind 3 h) at e))
       ]
 
+  -- 11: the kind is known, and the seed has not its length
   pub refused-with-length : madeBytes kind s .refusal ≡ refusal.seedLength → (kind ≤ 3) × (length s ≡ seedLengthOf kind → ⊥)
   refused-with-length e =
       elim (decLe kind 3) [

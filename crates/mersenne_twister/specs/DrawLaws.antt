@@ -28,6 +28,7 @@ pub in-terms : (t : List ℕ) (p : ℕ) (x : ℕ → ℕ) → length t ≡ 624 �
     → drawnIn t p ≡ drawnAt (terms x 624 624) 0
 in-terms t p x n s f h = in-high t p h ∙ ap (λ (l : List ℕ). drawnAt l 0) (twist-terms t x n s f)
 
+-- a draw keeps the length of the table
 pub length-next : (g : MersenneTwister) → length (drawn g .next .mt) ≡ length (g .mt)
 length-next g =
     elim (decLe 624 (g .mti)) [
@@ -37,6 +38,7 @@ length-next g =
 
 -- ---- draws in a row
 
+-- n draws and then m are n + m
 pub after-add : (n m : ℕ) (g : MersenneTwister) → after (n + m) g ≡ after m (after n g)
 unfolding after
 after-add n zero g = ap (λ (k : ℕ). after k g) (add-zero n)
@@ -47,6 +49,7 @@ pub word-from : (n k : ℕ) (g : MersenneTwister) → wordOf g (n + k) ≡ wordO
 unfolding wordOf
 word-from n k g = ap (λ (h : MersenneTwister). drawn h .word) (after-add n k g)
 
+-- draws in a row keep the length of the table
 pub length-after : (n : ℕ) (g : MersenneTwister) → length (after n g .mt) ≡ length (g .mt)
 unfolding after
 length-after zero g = refl

@@ -99,6 +99,7 @@ from-next : (g : MersenneTwister) (k : ℕ) → after (suc k) g ≡ after k (dra
 unfolding after
 from-next g k = ap (λ (n : ℕ). after n g) (sym (one-add k)) ∙ after-add 1 k g
 
+-- word after word
 pub stored-words : (t : List ℕ) (p k : ℕ) → wordOf (held t (storedPosition p)) k ≡ wordOf (held t p) k
 unfolding wordOf after
 stored-words t p zero = ap (λ (d : Drawn32). d .word) (drawn-stored t p)

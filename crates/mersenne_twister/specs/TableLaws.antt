@@ -15,6 +15,7 @@ use Rattle.mersenne_twister.specs.Table.{held, seedTable, seeded, stored
 
 -- ---- stores in a row
 
+-- a store keeps the length
 pub length-stored : (x : ℕ → ℕ) (n : ℕ) (t : List ℕ) → length (stored x n t) ≡ length t
 unfolding stored
 length-stored x zero t = refl
@@ -44,6 +45,7 @@ pub seeded-in : (t : List ℕ) (s : ℕ) → length t ≡ 624 → seededIn t s �
 unfolding seedTable
 seeded-in t s n = ap (λ (l : List ℕ). held l 624) (stored-all (seedWord s) t n)
 
+-- the table of a seed has 624 words
 pub length-seed-table : (s : ℕ) → length (seedTable s) ≡ 624
 unfolding seedTable
 length-seed-table s = length-terms (seedWord s) 0 624
@@ -55,6 +57,7 @@ stored-more x t m i v p q = rw (p, q) (ap (λ (k : ℕ). stored x k t) (sym (add
 
 -- ---- the twist in place
 
+-- the twist keeps the length
 pub length-renewed : (n : ℕ) (t : List ℕ) → length (renewed n t) ≡ length t
 unfolding renewed renewAt
 length-renewed zero t = refl

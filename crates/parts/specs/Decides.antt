@@ -8,6 +8,7 @@ use native.Mathlib.Omega.{arith}
 abbrev pub Decides : Bool → Type 0 → Type 0
 Decides b P = (b ≡ true → P) × (P → b ≡ true)
 
+-- the two answers differ
 pub false-not-true : false ≡ true → ⊥
 false-not-true p = let z : _≡_ {A = ℕ} 0 1 = cc in omega arith
 

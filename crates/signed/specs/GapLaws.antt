@@ -83,9 +83,11 @@ sum-mono (negsuc a) m n h = record { le = go (ltb m (suc a)) refl (ltb n (suc a)
     go false d true e = let j = ltb-false m (suc a) d in let k = ltb-true n (suc a) e in absurd (omega arith)
     go false d false e = rw (d, e) (le→leb (m - suc a) (n - suc a) (omega arith))
 
+-- it is at least min
 pub gap-least : (min : ℤ) (v : ℕ) → min ≤ℤ (min +ℤ pos v)
 gap-least min v = subst (λ (x : ℤ). x ≤ℤ (min +ℤ pos v)) (+ℤ-idr min) (sum-mono min 0 v (omega arith))
 
+-- and at most max
 pub gap-most : (min max : ℤ) (v : ℕ) → ltZ max min ≡ false → v ≤ gap min max → (min +ℤ pos v) ≤ℤ max
 gap-most min max v h q = subst (λ (x : ℤ). (min +ℤ pos v) ≤ℤ x) (gap-top min max h) (sum-mono min v (gap min max) q)
 

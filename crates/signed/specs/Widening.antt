@@ -15,5 +15,6 @@ module _ {x : ℤ} (f : SFits w32 x) where
   pub widen-fits : SFits w64 (toZ w32 (ofZ w32 x))
   widen-fits = rw (toZ-ofZ w32 x f) (record { sfits = let g = f .sfits in omega arith })
 
+  -- and it is read back as it was
   pub widened : wide x ≡ x
   widened = toZ-ofZ w64 _ widen-fits ∙ toZ-ofZ w32 x f

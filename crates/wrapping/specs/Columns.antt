@@ -30,6 +30,7 @@ lowerOf a b = columnsOf a b .third % 2 ^ 32 * 2 ^ 32 + columnsOf a b .first % 2 
 both : (a b : ℕ) → a * b ≡ upperOf a b * 2 ^ 64 + lowerOf a b
 both a b = (λ i. sym (div-add-mod' a (2 ^ 32)) i * sym (div-add-mod' b (2 ^ 32)) i) ∙ omega arith
 
+-- so the words off the columns are the words of the product
 pub upper-is : (a b : ℕ) → upperOf a b ≡ upperWord 64 a b
 upper-is a b = rw (both a b) (sym (digits-div (upperOf a b) (omega arith)))
 
@@ -47,6 +48,7 @@ pub record Rooms (a b : ℕ) : Type 0 where
   pub left : a / 2 ^ 32 * (b % 2 ^ 32) ≤ (2 ^ 32 - 1) * (2 ^ 32 - 1)
   pub highs : a / 2 ^ 32 * (b / 2 ^ 32) ≤ (2 ^ 32 - 1) * (2 ^ 32 - 1)
 
+-- two words leave it
 pub rooms : (a b : ℕ) → a < 2 ^ 64 → b < 2 ^ 64 → Rooms a b
 rooms a b ha hb = record {
   lows = halves (omega arith) (omega arith);
