@@ -27,6 +27,7 @@ upperOf a b = a / 2 ^ 32 * (b / 2 ^ 32) + columnsOf a b .second / 2 ^ 32 + colum
 abbrev pub lowerOf : (a b : ℕ) → ℕ
 lowerOf a b = columnsOf a b .third % 2 ^ 32 * 2 ^ 32 + columnsOf a b .first % 2 ^ 32
 
+-- multiplied out by halves, the product is the two words
 both : (a b : ℕ) → a * b ≡ upperOf a b * 2 ^ 64 + lowerOf a b
 both a b = (λ i. sym (div-add-mod' a (2 ^ 32)) i * sym (div-add-mod' b (2 ^ 32)) i) ∙ omega arith
 

@@ -29,9 +29,7 @@ cast-put4 : tie.Need-cast-put4 Inv-loop μ-loop
 cast-put4 c = search needs
 
 put4-requires : tie.Need-put4-requires Inv-loop μ-loop
-put4-requires c κs =
-    let h = c .before .before .before .before .before .loop .inv in
-    omega (arith, h .within, h .size)
+put4-requires c κs = omega arith
 
 add-i : tie.Need-add-i Inv-loop μ-loop
 add-i c = omega arith

@@ -24,9 +24,7 @@ next-u64-requires : tie.Need-next-u64-requires Inv-loop μ-loop
 next-u64-requires c κs = search needs
 
 put8-requires : tie.Need-put8-requires Inv-loop μ-loop
-put8-requires c κs =
-    let h = c .before .before .before .before .loop .inv in
-    omega (arith, h .within, h .size)
+put8-requires c κs = omega arith
 
 add-i : tie.Need-add-i Inv-loop μ-loop
 add-i c = omega arith

@@ -8,16 +8,16 @@ use Rattle.floats.specs.IntervalLaws.{ends-refused, order-refused, width
 use Rattle.floats.proofs.intervals.interval_refusal.Statement.{statement}
 use Rattle.floats.proofs.intervals.interval_refusal.Tie as tie
 
--- what is known past the first test, and past the second: each is the test's answer, by the call's promise
+-- what is known past the first test: the test's answer, by the call's promise; and likewise past the second, below
 finite-ends : (c : tie.Else1) → endsAreFinite (c .before .before .args .i) ≡ true
 finite-ends c = sym (c .before .ends-are-finite .ensures) ∙ not-false _ (c .if1 .left)
-
-in-order : (c : tie.Else2) → isOutOfOrder (c .before .before .before .before .args .i) ≡ false
-in-order c = sym (c .before .is-out-of-order .ensures) ∙ c .if2 .left
 
 -- the place past the first test, from that past the second
 abbrev passed : tie.Else2 → tie.Else1
 passed c = c .before .before
+
+in-order : (c : tie.Else2) → isOutOfOrder (passed c .before .before .args .i) ≡ false
+in-order c = sym (c .before .is-out-of-order .ensures) ∙ c .if2 .left
 
 ends-are-finite-requires : tie.Need-ends-are-finite-requires
 ends-are-finite-requires c κs = search needs

@@ -41,7 +41,9 @@ shared-slice-read-if2-2 : tie.Need-shared-slice-read-if2-2 Inv-loop μ-loop
 shared-slice-read-if2-2 c = search needs
 
 returns-2 : tie.Need-returns-2 Inv-loop μ-loop
-returns-2 c = decides-no (λ e. c .if2 .taken (ap (λ (l : List ℕ). getD l (c .before .before .before .before .loop .i) 0) e))
+returns-2 c =
+    let i = c .before .before .before .before .loop .i in
+    decides-no (λ e. c .if2 .taken (ap (λ (l : List ℕ). getD l i 0) e))
 
 add-i : tie.Need-add-i Inv-loop μ-loop
 add-i c = search needs
