@@ -14,12 +14,13 @@ use Rattle.random.specs.Generator.{widthOf, ownWord, step, later}
 use Rattle.random.specs.GeneratorLaws.{width-positive, later-none}
 use Rattle.filling.specs.Fill.{byteOf, byteIn, bytesFrom, wordsFor, ownWords, filledBytes, fillWords, FilledFrom}
 use Rattle.filling.specs.FillKinds.{WholeOwn}
-use Rattle.filling.specs.FillLoop.{after, written-more}
+use Rattle.filling.specs.FillLoop.{after, wordsFrom, written-more}
 use Rattle.filling.specs.Poke.{poke}
 use Rattle.filling.specs.PokeLaws.{length-poke}
 
 -- ---- bytes
 
+-- n bytes are n
 pub length-bytes : (W : ℕ) (s : ℕ → ℕ) (n : ℕ) → length (bytesFrom W s n) ≡ n
 unfolding bytesFrom
 length-bytes W s n = length-terms _ 0 n
@@ -30,7 +31,8 @@ unfolding bytesFrom
 byte-at W s n k h = let z : 0 + k ≡ k = omega arith in terms-at (byteIn W s) 0 n k h ∙ ap (byteIn W s) z
 
 -- a list whose every byte is right is the whole of it
-pub all-bytes : (W : ℕ) (s : ℕ → ℕ) (n : ℕ) (l : List ℕ) → length l ≡ n → ((k : ℕ) → k < n → getD l k 0 ≡ byteIn W s k) → l ≡ bytesFrom W s n
+pub all-bytes : (W : ℕ) (s : ℕ → ℕ) (n : ℕ) (l : List ℕ)
+    → length l ≡ n → ((k : ℕ) → k < n → getD l k 0 ≡ byteIn W s k) → l ≡ bytesFrom W s n
 all-bytes W s n l e f =
     ext-getD 0 l (bytesFrom W s n) (e ∙ sym (length-bytes W s n)) (λ k b. f k (omega arith) ∙ sym (byte-at W s n k (omega arith)))
 
@@ -41,6 +43,7 @@ length-filled g n = length-bytes _ _ n
 
 -- ---- the words that they take
 
+-- whole words take themselves
 pub words-whole : (m W : ℕ) → 0 < W → wordsFor W (m * W) ≡ m
 words-whole m W p = digits-div m (omega arith)
 
@@ -65,19 +68,21 @@ unfolding after later
 advance-after zero g = refl
 advance-after (suc k) g = ap step (advance-after k g)
 
-own-after : (k : ℕ) (g : Random) → ownWord (after step k g) ≡ ownWords g k
+-- byte k of its own words, as the loop has it
+own-byte : (W : ℕ) (g : Random) (k : ℕ) → byteIn W (wordsFrom ownWord step g) k ≡ byteIn W (ownWords g) k
 unfolding ownWords
-own-after k g = ap ownWord (advance-after k g)
+own-byte W g k = ap (λ (h : Random). byteOf (ownWord h) (k % W)) (advance-after (k / W) g)
 
 -- n bytes that are whole words
-pub filled-whole : {g : Random} {n : ℕ} {cur : Random} {bytes : List ℕ} → WholeOwn g n cur bytes → n % widthOf (g .backend) ≡ 0 → FilledFrom g n bytes cur
+pub filled-whole : {g : Random} {n : ℕ} {cur : Random} {bytes : List ℕ}
+    → WholeOwn g n cur bytes → n % widthOf (g .backend) ≡ 0 → FilledFrom g n bytes cur
 unfolding filledBytes
 filled-whole {g} {n} {cur} {bytes} h z =
     let W = widthOf (g .backend) in
     let e : n ≡ h .words * W = let p = h .place in omega arith in
     let c : wordsFor W n ≡ h .words = ap (wordsFor W) e ∙ words-whole (h .words) W (width-positive (g .backend)) in
     record {
-      content = all-bytes W (ownWords g) n bytes (h .size) (λ k l. h .written k (omega arith) ∙ ap (λ (x : ℕ). byteOf x (k % W)) (own-after (k / W) g));
+      content = all-bytes W (ownWords g) n bytes (h .size) (λ k l. h .written k (omega arith) ∙ own-byte W g k);
       after = h .moved ∙ advance-after (h .words) g ∙ rw c;
     }
 
@@ -98,7 +103,7 @@ filled-tail {g} {n} {cur} {bytes} h w next z e f =
     record {
       content =
           all-bytes W (ownWords g) n (poke t (n - t) w bytes) (length-poke t (n - t) w bytes ∙ h .size)
-          (λ k l. right k (omega arith) ∙ ap (λ (x : ℕ). byteOf x (k % W)) (own-after (k / W) g));
+          (λ k l. right k (omega arith) ∙ own-byte W g k);
       after = f ∙ ap step (h .moved) ∙ advance-after (suc (h .words)) g ∙ rw c;
     }
 

@@ -1,4 +1,5 @@
--- The loop that fills, over any engine: a state, the word that it gives and the state after it. Proved once, for every kind and every width.
+-- The loop that fills, over any engine: a state, the word that it gives and the state after it. Proved once, for every kind and every
+-- width.
 use mathlib.Core.Path.{_≡_, refl, _∙_, ap}
 use mathlib.Core.List.{List}
 use Prim.Native.Nat.{ℕ, zero, suc, _+_, _-_, _*_, _/_, _%_, _≤_, _<_}
@@ -16,6 +17,7 @@ unfoldable pub after : {S : Type 0} → (S → S) → ℕ → S → S
 after step zero s = s
 after step (suc k) s = step (after step k s)
 
+-- the words that follow from a state, as a sequence
 abbrev pub wordsFrom : {S : Type 0} → (S → ℕ) → (S → S) → S → ℕ → ℕ
 wordsFrom word step s k = word (after step k s)
 
@@ -32,7 +34,9 @@ pub record Filling {S : Type 0} (word : S → ℕ) (step : S → S) (W : ℕ) (s
 abbrev pub WholeWords : {S : Type 0} → (S → ℕ) → (S → S) → ℕ → S → ℕ → S → List ℕ → Type 0
 WholeWords word step W s n cur bytes = Filling word step W s n (n - n % W) cur bytes
 
-pub filling-start : {S : Type 0} (word : S → ℕ) (step : S → S) (W : ℕ) (s : S) (bytes : List ℕ) → Filling word step W s (length bytes) 0 s bytes
+-- nothing is written yet
+pub filling-start : {S : Type 0} (word : S → ℕ) (step : S → S) (W : ℕ) (s : S) (bytes : List ℕ)
+    → Filling word step W s (length bytes) 0 s bytes
 unfolding after
 filling-start word step W s bytes =
     record {
@@ -103,6 +107,12 @@ module _ {S T : Type 0} {word : S → ℕ} {step : S → S} (word′ : T → ℕ
   same-after zero s = refl
   same-after (suc k) s = same-step (after step k s) ∙ ap step′ (same-after k s)
 
+  same-byte : (W : ℕ) (s : S) (j : ℕ) → byteIn W (wordsFrom word step s) j ≡ byteIn W (wordsFrom word′ step′ (f s)) j
+  same-byte W s j =
+      let k = j / W in
+      ap (λ (x : ℕ). byteOf x (j % W)) (same-word (after step k s) ∙ ap word′ (same-after k s))
+
+  -- so what the one has filled, the other has
   pub filling-part : {W : ℕ} {s : S} {n i : ℕ} {cur : S} {bytes : List ℕ}
       → Filling word step W s n i cur bytes → Filling word′ step′ W (f s) n i (f cur) bytes
   filling-part {W} {s} h =
@@ -112,5 +122,5 @@ module _ {S T : Type 0} {word : S → ℕ} {step : S → S} (word′ : T → ℕ
         within = h .within;
         size = h .size;
         moved = ap f (h .moved) ∙ same-after (h .words) s;
-        written = λ j l. h .written j l ∙ ap (λ (x : ℕ). byteOf x (j % W)) (same-word (after step (j / W) s) ∙ ap word′ (same-after (j / W) s));
+        written = λ j l. h .written j l ∙ same-byte W s j;
       }

@@ -9,6 +9,7 @@ use lib.Seq.{getD-set-same, getD-set-other}
 use Rattle.filling.specs.Fill.{byteOf}
 use Rattle.filling.specs.Poke.{poke}
 
+-- no length changes
 pub length-poke : (n i w : ℕ) (l : List ℕ) → length (poke n i w l) ≡ length l
 unfolding poke
 length-poke zero i w l = refl
@@ -44,19 +45,23 @@ poke-eight i w l =
 
 -- ---- a loop that writes them one by one: what is left to write, after k of n bytes
 
+-- none is written yet
 pub poke-start : (n i w : ℕ) (l : List ℕ) → poke (n - 0) (i + 0) w l ≡ poke n i w l
 poke-start n i w l =
     let e : n - 0 ≡ n = omega arith in
     let p : i + 0 ≡ i = omega arith in
     rw (e, p)
 
-pub poke-turn : (n k i w : ℕ) (l : List ℕ) → k < n → poke (n - (k + 1)) (i + (k + 1)) (w / 256) (set l (i + k) (w % 256)) ≡ poke (n - k) (i + k) w l
+-- one more is written
+pub poke-turn : (n k i w : ℕ) (l : List ℕ)
+    → k < n → poke (n - (k + 1)) (i + (k + 1)) (w / 256) (set l (i + k) (w % 256)) ≡ poke (n - k) (i + k) w l
 unfolding poke
 poke-turn n k i w l h =
     let e : n - k ≡ suc (n - (k + 1)) = omega arith in
     let p : i + (k + 1) ≡ i + k + 1 = omega arith in
     rw (e, p)
 
+-- all are written
 pub poke-end : (n k i w : ℕ) (l : List ℕ) → n ≤ k → poke (n - k) (i + k) w l ≡ l
 unfolding poke
 poke-end n k i w l h =

@@ -24,17 +24,19 @@ use Rattle.random.specs.declared.backend.Backend.{Backend}
 use Rattle.random.specs.declared.backend.Backend.the-variants.{Xoshiro256PlusPlus, MersenneTwister, Pcg32, Pcg64}
 use Rattle.random.specs.declared.engine.EngineWord.{EngineWord}
 use Rattle.random.specs.declared.engine.EngineWord64.{EngineWord64}
-use Rattle.float_draws.specs.Coins.{flipFrom}
+use Rattle.float_draws.specs.Coins.{flipOf, flipFrom}
 use Rattle.float_draws.specs.Spreads.{spreadFrom}
 use Rattle.float_draws.specs.Units.{floatFrom, doubleFrom}
 
--- ---- over a lent table
+-- ---- over a lent table: a word that was drawn, its engine and the table that it left
 
+-- the float of the word
 pub float-in : (g : Random) (r : EngineWord) (t : List ℕ) → joinedWord r t ≡ randOf g
     → record { value = floatOf (r .word); next = joinedWith (r .next) t } ≡ floatFrom g
 unfolding floatFrom randOf
 float-in g r t h = rw (ap (λ (d : Word32). d .word) h, ap (λ (d : Word32). d .next) h)
 
+-- the double of the 64-bit word
 pub double-in : (g : Random) (r : EngineWord64) (t : List ℕ) → joinedWord64 r t ≡ u64Of g
     → record { value = doubleOf (r .word); next = joinedWith (r .next) t } ≡ doubleFrom g
 unfolding doubleFrom u64Of
@@ -54,22 +56,26 @@ steps-narrow (Pcg32 p) e = refl
 steps-narrow (Pcg64 p) e = absurd (e refl)
 
 module _ (g : Random) (p : Float) where
+  -- the coin of the 64-bit word, where p is a chance
   pub flip-taken : isChance p ≡ true → (r : EngineWord64) (t : List ℕ) → joinedWord64 r t ≡ u64Of g
-      → record { refusal = coinOf p (r .word) .refusal; value = coinOf p (r .word) .value; used = steps64 (g .backend); next = joinedWith (r .next) t } ≡ flipFrom g p
+      → flipOf (coinOf p (r .word)) (steps64 (g .backend)) (joinedWith (r .next) t) ≡ flipFrom g p
   unfolding flipFrom u64Of
   flip-taken c r t h = rw (c, ap (λ (d : Word64). d .word) h, ap (λ (d : Word64). d .next) h)
 
+  -- and where it is none, nothing drawn
   pub flip-refused : isChance p ≡ false → record { refusal = refusal.chance; value = false; used = 0; next = g } ≡ flipFrom g p
   unfolding flipFrom
   flip-refused c = rw (c, later-none g)
 
 module _ (g : Random) (i : Interval) where
+  -- the number of the 64-bit word, where the interval is taken
   pub spread-taken : intervalRefusal i ≡ 0 → (r : EngineWord64) (t : List ℕ) → joinedWord64 r t ≡ u64Of g
       → record { answer = Number (numberIn i (r .word)); next = joinedWith (r .next) t } ≡ spreadFrom g i
   unfolding spreadFrom u64Of
   spread-taken z r t h =
       rw (uniform-taken i (word64Of g) z, eq-eqb (intervalRefusal i) 0 z, ap (λ (d : Word64). d .word) h, ap (λ (d : Word64). d .next) h)
 
+  -- and where it is refused, nothing drawn
   pub spread-refused : (intervalRefusal i ≡ 0 → ⊥) → record { answer = Refused (intervalRefusal i); next = g } ≡ spreadFrom g i
   unfolding spreadFrom
   spread-refused z = rw (uniform-refused i (word64Of g) z, ne-eqb (intervalRefusal i) 0 z, later-none g)

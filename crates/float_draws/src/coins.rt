@@ -1,6 +1,6 @@
 // `bool`: one double is drawn, also at p = 0 and 1, and asked whether it is below p.
 ghost use mathlib.Core.Path.{_≡_};
-ghost use Rattle.float_draws.specs.Coins.{stepsOf};
+ghost use Rattle.random.specs.Generator.{steps64};
 ghost use Rattle.float_draws.specs.Promises.{BoolInPromise, BoolPromise};
 use random::Backend;
 use random::Engine;
@@ -27,11 +27,12 @@ pub struct EngineFlip {
 
 // How many words a 64-bit word takes.
 fn steps(backend: Backend) -> u32
-    ensures { λ r. ⌜ r ≡ stepsOf backend ⌝ }
+    ensures { λ r. ⌜ r ≡ steps64 backend ⌝ }
 {
     if random::width(backend) == 8 { 1 } else { 2 }
 }
 
+// Whether the double of the next 64-bit word is below p; where p is no chance, nothing is drawn.
 pub fn bool_in(e: Engine, mt: &mut [u32; 624], p: f64) -> EngineFlip
     ensures { λ r. ⌜ BoolInPromise e (now (mt .entry)) p r (now (mt .exit)) ⌝ }
 {
@@ -56,6 +57,7 @@ pub fn bool_in(e: Engine, mt: &mut [u32; 624], p: f64) -> EngineFlip
     }
 }
 
+// The same by value.
 pub fn bool(g: Random, p: f64) -> Flip
     ensures { λ r. ⌜ BoolPromise g p r ⌝ }
 {

@@ -8,6 +8,7 @@ use random::engine_of;
 use random::with_table;
 use words::refusal;
 
+// The number drawn or the refusal's number, and the generator after it; refused, the one that came in.
 pub struct Spread {
     pub answer: Uniform,
     pub next: Random,
@@ -19,6 +20,7 @@ pub struct EngineSpread {
     pub next: Engine,
 }
 
+// low + (high - low) * double of the next 64-bit word, each operation rounded once; refused, nothing is drawn.
 pub fn uniform_in(e: Engine, mt: &mut [u32; 624], i: Interval) -> EngineSpread
     ensures { λ r. ⌜ UniformInPromise e (now (mt .entry)) i r (now (mt .exit)) ⌝ }
 {
@@ -38,6 +40,7 @@ pub fn uniform_in(e: Engine, mt: &mut [u32; 624], i: Interval) -> EngineSpread
     }
 }
 
+// The same by value.
 pub fn uniform(g: Random, i: Interval) -> Spread
     ensures { λ r. ⌜ UniformPromise g i r ⌝ }
 {

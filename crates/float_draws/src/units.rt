@@ -11,6 +11,7 @@ pub struct Drawn32 {
     pub next: Random,
 }
 
+// The same of a double.
 pub struct Drawn64 {
     pub value: f64,
     pub next: Random,
@@ -22,6 +23,7 @@ pub struct EngineDrawn32 {
     pub next: Engine,
 }
 
+// The same of a double, over a lent table.
 pub struct EngineDrawn64 {
     pub value: f64,
     pub next: Engine,
@@ -51,6 +53,7 @@ pub fn double_in(e: Engine, mt: &mut [u32; 624]) -> EngineDrawn64
     }
 }
 
+// The same by value.
 pub fn float(g: Random) -> Drawn32
     ensures { λ r. ⌜ FloatPromise g r ⌝ }
 {
@@ -65,6 +68,7 @@ pub fn float(g: Random) -> Drawn32
     }
 }
 
+// The same by value.
 pub fn double(g: Random) -> Drawn64
     ensures { λ r. ⌜ DoublePromise g r ⌝ }
 {

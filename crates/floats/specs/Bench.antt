@@ -35,6 +35,7 @@ float-bench-holds = refl & refl & refl & refl & end
 abbrev f64 : ℕ → Float
 f64 bits = ofBits binary64 bits
 
+-- the float 1
 abbrev one : Float
 one = f64 0x3FF0_0000_0000_0000
 
@@ -42,12 +43,15 @@ one = f64 0x3FF0_0000_0000_0000
 abbrev nextAboveOne : Float
 nextAboveOne = f64 0x3FF0_0000_0000_0001
 
+-- the word of 64 ones
 abbrev allOnes : ℕ
 allOnes = 0xFFFF_FFFF_FFFF_FFFF
 
+-- an interval by its ends
 abbrev between : Float → Float → Interval
 between a b = record { low = a; high = b }
 
+-- a coin by its fields
 abbrev coin : (refusal : ℕ) (value : Bool) → Coin
 coin r v = record { refusal = r; value = v }
 

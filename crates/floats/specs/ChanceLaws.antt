@@ -58,9 +58,11 @@ refusal : (b : Bool) → cond b 0 chance ≡ chance → b ≡ false
 refusal true h = absurd (omega arith)
 refusal false h = refl
 
+-- 3 exactly where p is NaN, below 0 or above 1
 pub chance-refused : (p : Float) → (chanceRefusal p ≡ chance) ↔ Outside p
 chance-refused p = (λ h. no-chance p (refusal (isChance p) h), λ o. rw (outside p o))
 
+-- and none exactly where 0 ≤ p ≤ 1
 pub chance-taken : (p : Float) → (chanceRefusal p ≡ 0) ↔ ((le zeroFloat p && le p oneFloat) ≡ true)
 chance-taken p = (λ h. sym (is-chance-tests p) ∙ no-refusal (isChance p) h, λ h. rw (is-chance-tests p ∙ h))
 

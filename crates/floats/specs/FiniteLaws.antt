@@ -21,9 +21,11 @@ finite-tests (fin s m e) = refl
 abbrev pub Infinite : Float → Type 0
 Infinite x = (s : Bool) × (x ≡ inf s)
 
+-- a NaN or an infinity
 abbrev pub NotFinite : Float → Type 0
 NotFinite x = (isNan x ≡ true) ⊎ Infinite x
 
+-- what is not finite is one of these, and none of these is finite
 pub not-finite : (x : Float) → finite x ≡ false → NotFinite x
 not-finite nan h = inl (unfold isNan in refl)
 not-finite (inf s) h = inr (s, refl)
@@ -66,6 +68,7 @@ difference-number f (fin s m e) nan p q = absurd (false≢true q)
 difference-number f (fin s m e) (inf t) p q = absurd (false≢true q)
 difference-number f (fin s m e) (fin t n d) p q = sum-number f s (not t) (m * up e * down d) (n * up d * down e) (down e * down d)
 
+-- so a difference of finite floats that is not finite is an infinity
 pub overflowed : (f : Format) (x y : Float) → finite x ≡ true → finite y ≡ true → finite (sub f x y) ≡ false → Infinite (sub f x y)
 overflowed f x y p q h = go (not-finite (sub f x y) h)
   where

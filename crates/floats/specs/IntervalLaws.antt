@@ -80,6 +80,7 @@ module _ (i : Interval) where
   ends : finite (i .low) ≡ true → finite (i .high) ≡ true → endsAreFinite i ≡ true
   ends p q = rw (p, q)
 
+  -- 2 exactly where both ends are finite and low ≥ high
   pub order-iff : (intervalRefusal i ≡ order) ↔ OutOfOrder i
   unfolding intervalRefusal
   order-iff = (
@@ -90,6 +91,7 @@ module _ (i : Interval) where
     λ h. order-refused i (ends (h .0) (h .1)) (h .2),
   )
 
+  -- none exactly where the interval can be drawn from
   pub taken-iff : (intervalRefusal i ≡ 0) ↔ Taken i
   unfolding intervalRefusal
   taken-iff = (
@@ -100,6 +102,7 @@ module _ (i : Interval) where
     λ h. accepted i (ends (h .0) (h .1)) (total (i .low) (i .high) (h .0) (h .1) ∙ ap not (h .2)) (h .3),
   )
 
+  -- 7 exactly where an end is not finite, or high - low overflows with low < high
   pub not-finite-iff : (intervalRefusal i ≡ notFinite) ↔ OutOfRange i
   unfolding intervalRefusal
   not-finite-iff = (λ h. there (of-not-finite (endsAreFinite i) (isOutOfOrder i) (finite (width i)) h), back)
@@ -122,6 +125,7 @@ module _ (i : Interval) where
       back (inr (inl p)) = ends-refused i (rw (never-finite (i .high) p) (and-false (finite (i .low))))
       back (inr (inr p)) = by-ends (endsAreFinite i) refl (p .0) (never-finite (width i) (inr (p .1)))
 
+  -- and no other number
   pub no-others : (intervalRefusal i ≡ 0) ⊎ (intervalRefusal i ≡ order) ⊎ (intervalRefusal i ≡ notFinite)
   unfolding intervalRefusal
   no-others = go (endsAreFinite i) (isOutOfOrder i) (finite (width i))

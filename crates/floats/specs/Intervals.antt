@@ -10,6 +10,7 @@ use Rattle.floats.specs.declared.intervals.Interval.{Interval}
 use Rattle.floats.specs.declared.intervals.Uniform.{Uniform}
 use Rattle.floats.specs.declared.intervals.Uniform.the-variants.{Number, Refused}
 
+-- neither end is a NaN or an infinity
 abbrev pub endsAreFinite : Interval → Bool
 endsAreFinite i = finite (i .low) && finite (i .high)
 
@@ -34,6 +35,7 @@ abbrev pub answered : (refusal : ℕ) (number : Float) → Uniform
 answered zero v = Number v
 answered (suc k) v = Refused (suc k)
 
+-- the whole answer that a word gives
 abbrev pub uniformOf : (i : Interval) (word : ℕ) → Uniform
 uniformOf i word = answered (intervalRefusal i) (numberIn i word)
 

@@ -78,6 +78,7 @@ total (fin true m e) (fin true n d) p q =
 abbrev pub zeroFloat : Float
 zeroFloat = fin false 0 (pos 0)
 
+-- the float 1
 abbrev pub oneFloat : Float
 oneFloat = fin false 1 (pos 0)
 

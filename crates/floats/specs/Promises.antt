@@ -10,32 +10,42 @@ use Rattle.floats.specs.declared.chances.Coin.{Coin}
 use Rattle.floats.specs.declared.intervals.Interval.{Interval}
 use Rattle.floats.specs.declared.intervals.Uniform.{Uniform}
 
+-- `is_chance`: whether p is from 0 to 1
 abbrev pub IsChancePromise : Float → Bool → Type 0
 IsChancePromise p r = r ≡ isChance p
 
+-- `chance_refusal`: 3 where p is no chance, and 0 where it is
 abbrev pub ChanceRefusalPromise : Float → ℕ → Type 0
 ChanceRefusalPromise p r = r ≡ chanceRefusal p
 
+-- `chance`: whether the word's double is below p; refused, false
 abbrev pub ChancePromise : Float → ℕ → Coin → Type 0
 ChancePromise p word r = r ≡ coinOf p word
 
+-- `ends_are_finite`: neither end is a NaN or an infinity
 abbrev pub EndsAreFinitePromise : Interval → Bool → Type 0
 EndsAreFinitePromise i r = r ≡ endsAreFinite i
 
+-- `is_out_of_order`: low ≥ high
 abbrev pub IsOutOfOrderPromise : Interval → Bool → Type 0
 IsOutOfOrderPromise i r = r ≡ isOutOfOrder i
 
+-- `interval_refusal`: the first fault that there is, 7, 2 or 7 again, and 0 where there is none
 abbrev pub IntervalRefusalPromise : Interval → ℕ → Type 0
 IntervalRefusalPromise i r = r ≡ intervalRefusal i
 
+-- `number_in`: low + (high - low) * double, each operation rounded once
 abbrev pub NumberInPromise : Interval → ℕ → Float → Type 0
 NumberInPromise i word r = r ≡ numberIn i word
 
+-- `uniform_of`: that number, or the refusal's
 abbrev pub UniformOfPromise : Interval → ℕ → Uniform → Type 0
 UniformOfPromise i word r = r ≡ uniformOf i word
 
+-- `float_of`: (word >> 8) / 2 ^ 24 exactly
 abbrev pub FloatOfPromise : ℕ → Float → Type 0
 FloatOfPromise word r = r ≡ floatOf word
 
+-- `double_of`: (word >> 11) / 2 ^ 53 exactly
 abbrev pub DoubleOfPromise : ℕ → Float → Type 0
 DoubleOfPromise word r = r ≡ doubleOf word

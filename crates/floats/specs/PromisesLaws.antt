@@ -3,7 +3,8 @@ use mathlib.Core.Bool.{Bool}
 use mathlib.Core.Path.{_≡_, sym, _∙_}
 use Prim.Native.Nat.{ℕ}
 use lib.Ieee.{Float}
-use Rattle.floats.specs.Promises.{ChancePromise, ChanceRefusalPromise, DoubleOfPromise, EndsAreFinitePromise, FloatOfPromise, IntervalRefusalPromise, IsChancePromise, IsOutOfOrderPromise, NumberInPromise, UniformOfPromise}
+use Rattle.floats.specs.Promises.{ChancePromise, ChanceRefusalPromise, DoubleOfPromise, EndsAreFinitePromise, FloatOfPromise}
+use Rattle.floats.specs.Promises.{IntervalRefusalPromise, IsChancePromise, IsOutOfOrderPromise, NumberInPromise, UniformOfPromise}
 use Rattle.floats.specs.declared.chances.Coin.{Coin}
 use Rattle.floats.specs.declared.intervals.Interval.{Interval}
 use Rattle.floats.specs.declared.intervals.Uniform.{Uniform}

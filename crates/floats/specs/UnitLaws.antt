@@ -10,7 +10,8 @@ use lib.Pow.{pow-pos}
 use lib.Ieee.{fin, binary32, binary64, le}
 use lib.Ieee.Order.{le-of-values}
 use Rattle.floats.specs.Units.{dyadic, floatOf, doubleOf}
-use Rattle.floats.specs.DyadicLaws.{Exactly, dyadic-value, dyadic-exact}
+use Rattle.floats.specs.DyadicLaws.{dyadic-value, dyadic-exact}
+use Rattle.floats.specs.ExactValue.{Exactly}
 
 -- `float` is exactly (word >> 8) / 2^24
 pub float-exact : (word : ℕ) → word < 2 ^ 32 → Exactly binary32 (floatOf word) (word / 2 ^ 8) 24
@@ -37,6 +38,7 @@ double-never-above word h =
     let under : word / 2 ^ 11 ≤ 2 ^ 53 - 1 = omega arith in
     dyadic-le (word / 2 ^ 11) (2 ^ 53 - 1) 53 under (lit< tt)
 
+-- and never below 0
 pub double-never-below-zero : (word : ℕ) → word < 2 ^ 64 → T (le (fin false 0 (pos 0)) (doubleOf word))
 unfolding dyadic
 double-never-below-zero word h = dyadic-le 0 (word / 2 ^ 11) 53 zero-le (high-bits word h)

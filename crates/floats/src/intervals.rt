@@ -1,7 +1,8 @@
 // A number of an interval: low + (high - low) * double, each operation rounded once.
 ghost use mathlib.Core.Path.{_≡_};
 ghost use lib.Ieee.Scale.{finite};
-ghost use Rattle.floats.specs.Promises.{EndsAreFinitePromise, IsOutOfOrderPromise, IntervalRefusalPromise, NumberInPromise, UniformOfPromise};
+ghost use Rattle.floats.specs.Promises.{EndsAreFinitePromise, IsOutOfOrderPromise, IntervalRefusalPromise, NumberInPromise};
+ghost use Rattle.floats.specs.Promises.{UniformOfPromise};
 use super::units::double_of;
 use words::refusal;
 
@@ -26,6 +27,7 @@ fn is_finite(x: f64) -> bool
     if x < infinity { -infinity < x } else { false }
 }
 
+// Whether both ends are.
 pub fn ends_are_finite(i: Interval) -> bool
     ensures { λ r. ⌜ EndsAreFinitePromise i r ⌝ }
 {

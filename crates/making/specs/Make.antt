@@ -20,20 +20,25 @@ use Rattle.random.specs.declared.backend.Backend.the-variants.{Xoshiro256PlusPl
 use Rattle.random.specs.declared.backend.Random.{Random}
 use Rattle.making.specs.declared.bytes.Made.{Made}
 
+-- the twister that stands beside a kind with no use for it: zeros
 abbrev pub zeroTwister : twister-type.MersenneTwister
 zeroTwister = twister.held (replicate 624 0) 0
 
 -- ---- of each kind's own parts
 
+-- kind 0
 abbrev pub ofXoshiro : xoshiro-type.Xoshiro256PlusPlus → Random
 ofXoshiro x = record { backend = Xoshiro256PlusPlus x; twister = zeroTwister }
 
+-- kind 1
 abbrev pub ofTwister : twister-type.MersenneTwister → Random
 ofTwister t = record { backend = MersenneTwister; twister = t }
 
+-- kind 2
 abbrev pub ofPcg32 : pcg32-type.Pcg32 → Random
 ofPcg32 p = record { backend = Pcg32 p; twister = zeroTwister }
 
+-- kind 3
 abbrev pub ofPcg64 : pcg64-type.Pcg64 → Random
 ofPcg64 p = record { backend = Pcg64 p; twister = zeroTwister }
 
@@ -43,21 +48,28 @@ zeroGenerator = ofXoshiro (xoshiro.parts 0 0 0 0)
 
 -- ---- of a kind number and a byte seed: 32, 32, 16 and 32 bytes for kinds 0 to 3
 
+-- the length of a kind's byte seed
 abbrev pub seedLengthOf : ℕ → ℕ
 seedLengthOf kind = cond (eqb kind 2) 16 32
 
+-- the generator of a kind from its bytes; a kind above 3 is not asked for
 unfoldable pub ofKind : ℕ → List ℕ → Random
 ofKind kind s =
     cond (eqb kind 0) (ofXoshiro (xoshiro-seed.seededBytes s))
     (cond (eqb kind 1) (ofTwister (twister.seeded (twister.folded s)))
     (cond (eqb kind 2) (ofPcg32 (pcg32.seededBytes s)) (ofPcg64 (pcg64.seededBytes s))))
 
+-- a refusal with this number
 abbrev pub refusedMaking : ℕ → Made
 refusedMaking number = record { refusal = number; generator = zeroGenerator }
+
+-- and a generator that was made
+abbrev pub answeredMaking : Random → Made
+answeredMaking g = record { refusal = refusal.answered; generator = g }
 
 -- 10 where the kind is above 3, then 11 where the seed has not the kind's length
 unfoldable pub madeBytes : ℕ → List ℕ → Made
 madeBytes kind s =
     cond (leb kind 3)
-    (cond (eqb (length s) (seedLengthOf kind)) (record { refusal = refusal.answered; generator = ofKind kind s }) (refusedMaking refusal.seedLength))
+    (cond (eqb (length s) (seedLengthOf kind)) (answeredMaking (ofKind kind s)) (refusedMaking refusal.seedLength))
     (refusedMaking refusal.kind)

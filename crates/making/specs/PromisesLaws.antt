@@ -10,7 +10,10 @@ use Rattle.random.specs.declared.backend.Random.{Random}
 use Rattle.random.specs.declared.engine.Engine.{Engine}
 use Rattle.wrapping.specs.declared.wide.Wide.{Wide}
 use Rattle.xoshiro.specs.declared.Xoshiro256PlusPlus.{Xoshiro256PlusPlus}
-use Rattle.making.specs.Promises.{FromMersenneTwisterPromise, FromPcg32Promise, FromPcg64Promise, FromU64SeedPromise, FromXoshiroPromise, MakePromise, NewMersenneTwisterWithSeedPromise, NewPcg32WithSeedPromise, NewPcg32WithStreamPromise, NewPcg64WithSeedPromise, NewPcg64WithStreamPromise, SeedInPromise, SeedLengthPromise, SeedPromise, ZerosPromise}
+use Rattle.making.specs.Promises.{FromMersenneTwisterPromise, FromPcg32Promise, FromPcg64Promise, FromU64SeedPromise}
+use Rattle.making.specs.Promises.{FromXoshiroPromise, MakePromise, NewMersenneTwisterWithSeedPromise, NewPcg32WithSeedPromise}
+use Rattle.making.specs.Promises.{NewPcg32WithStreamPromise, NewPcg64WithSeedPromise, NewPcg64WithStreamPromise, MakingSeedInPromise}
+use Rattle.making.specs.Promises.{SeedLengthPromise, SeedPromise, ZerosPromise}
 use Rattle.making.specs.declared.bytes.Made.{Made}
 
 pub one-seed-length : (kind : ℕ) {a b : ℕ} → SeedLengthPromise kind a → SeedLengthPromise kind b → a ≡ b
@@ -22,7 +25,8 @@ one-make kind seed p q = p ∙ sym q
 pub one-from-xoshiro : (x : Xoshiro256PlusPlus) {a b : Random} → FromXoshiroPromise x a → FromXoshiroPromise x b → a ≡ b
 one-from-xoshiro x p q = p ∙ sym q
 
-pub one-from-mersenne-twister : (twister : MersenneTwister) {a b : Random} → FromMersenneTwisterPromise twister a → FromMersenneTwisterPromise twister b → a ≡ b
+pub one-from-mersenne-twister : (twister : MersenneTwister) {a b : Random}
+    → FromMersenneTwisterPromise twister a → FromMersenneTwisterPromise twister b → a ≡ b
 one-from-mersenne-twister twister p q = p ∙ sym q
 
 pub one-from-pcg32 : (p : Pcg32) {a b : Random} → FromPcg32Promise p a → FromPcg32Promise p b → a ≡ b
@@ -37,7 +41,8 @@ one-zeros p q = p ∙ sym q
 pub one-from-u64-seed : (seed : ℕ) {a b : Random} → FromU64SeedPromise seed a → FromU64SeedPromise seed b → a ≡ b
 one-from-u64-seed seed p q = p ∙ sym q
 
-pub one-new-mersenne-twister-with-seed : (seed : ℕ) {a b : Random} → NewMersenneTwisterWithSeedPromise seed a → NewMersenneTwisterWithSeedPromise seed b → a ≡ b
+pub one-new-mersenne-twister-with-seed : (seed : ℕ) {a b : Random}
+    → NewMersenneTwisterWithSeedPromise seed a → NewMersenneTwisterWithSeedPromise seed b → a ≡ b
 one-new-mersenne-twister-with-seed seed p q = p ∙ sym q
 
 pub one-new-pcg32-with-seed : (seed : ℕ) {a b : Random} → NewPcg32WithSeedPromise seed a → NewPcg32WithSeedPromise seed b → a ≡ b
@@ -46,14 +51,17 @@ one-new-pcg32-with-seed seed p q = p ∙ sym q
 pub one-new-pcg64-with-seed : (seed : Wide) {a b : Random} → NewPcg64WithSeedPromise seed a → NewPcg64WithSeedPromise seed b → a ≡ b
 one-new-pcg64-with-seed seed p q = p ∙ sym q
 
-pub one-new-pcg32-with-stream : (seed stream : ℕ) {a b : Random} → NewPcg32WithStreamPromise seed stream a → NewPcg32WithStreamPromise seed stream b → a ≡ b
+pub one-new-pcg32-with-stream : (seed stream : ℕ) {a b : Random}
+    → NewPcg32WithStreamPromise seed stream a → NewPcg32WithStreamPromise seed stream b → a ≡ b
 one-new-pcg32-with-stream seed stream p q = p ∙ sym q
 
-pub one-new-pcg64-with-stream : (seed stream : Wide) {a b : Random} → NewPcg64WithStreamPromise seed stream a → NewPcg64WithStreamPromise seed stream b → a ≡ b
+pub one-new-pcg64-with-stream : (seed stream : Wide) {a b : Random}
+    → NewPcg64WithStreamPromise seed stream a → NewPcg64WithStreamPromise seed stream b → a ≡ b
 one-new-pcg64-with-stream seed stream p q = p ∙ sym q
 
-pub one-seed-in : (e : Engine) (mt : List ℕ) (seed : ℕ) {a b : Engine} {mt₁ mt₂ : List ℕ} → SeedInPromise e mt seed a mt₁ → SeedInPromise e mt seed b mt₂ → (a ≡ b) × (mt₁ ≡ mt₂)
-one-seed-in e mt seed p q = joined-apart (p ∙ sym q)
+pub one-making-seed-in : (e : Engine) (mt : List ℕ) (seed : ℕ) {a b : Engine} {mt₁ mt₂ : List ℕ}
+    → MakingSeedInPromise e mt seed a mt₁ → MakingSeedInPromise e mt seed b mt₂ → (a ≡ b) × (mt₁ ≡ mt₂)
+one-making-seed-in e mt seed p q = joined-apart (p ∙ sym q)
 
 pub one-seed : (g : Random) (seed : ℕ) {a b : Random} → SeedPromise g seed a → SeedPromise g seed b → a ≡ b
 one-seed g seed p q = p ∙ sym q

@@ -13,6 +13,7 @@ use random::Random;
 use words::refusal;
 use xoshiro::Xoshiro256PlusPlus;
 
+// The refusal's number, 0 for none, and the generator; refused, it is kind 0 with four zero words.
 pub struct Made {
     pub refusal: u32,
     pub generator: Random,
@@ -60,6 +61,7 @@ pub fn make(kind: u32, seed: &[u8]) -> Made
     }
 }
 
+// A refusal with this number.
 fn refused_making(number: u32) -> Made
     ensures { λ r. ⌜ r ≡ refusedMaking number ⌝ }
 {

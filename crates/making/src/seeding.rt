@@ -1,5 +1,5 @@
 // `seed`: the generator's kind is kept and its state set anew, over a lent table and by value.
-ghost use Rattle.making.specs.Promises.{SeedInPromise, SeedPromise};
+ghost use Rattle.making.specs.Promises.{MakingSeedInPromise, SeedPromise};
 use pcg::Pcg32;
 use pcg::Pcg64;
 use random::Backend;
@@ -13,7 +13,7 @@ use xoshiro::Xoshiro256PlusPlus;
 
 // The kind is kept; the 32-bit seed is widened, and the stream is the default one.
 pub fn seed_in(e: Engine, mt: &mut [u32; 624], seed: u32) -> Engine
-    ensures { λ r. ⌜ SeedInPromise e (now (mt .entry)) seed r (now (mt .exit)) ⌝ }
+    ensures { λ r. ⌜ MakingSeedInPromise e (now (mt .entry)) seed r (now (mt .exit)) ⌝ }
 {
     let mti = e.mti;
     let backend = e.backend;

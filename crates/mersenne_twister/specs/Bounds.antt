@@ -11,11 +11,13 @@ use lib.Bits.{bitAnd, bitXor, and-le-l, xor-lt}
 use lib.ListN.{getD, set, length, List·getD-eq-default}
 use lib.Seq.{getD-set-same, getD-set-other, set-out}
 use Rattle.mersenne_twister.specs.declared.MersenneTwister.{MersenneTwister}
-use Rattle.mersenne_twister.specs.Sequence.{timesA, joined, follow, terms, temper, temper1, temper2, temper3, temper4, seedStep, seedWord}
+use Rattle.mersenne_twister.specs.Sequence.{timesA, joined, follow, terms, temper, temper1, temper2, temper3, temper4, seedStep}
+use Rattle.mersenne_twister.specs.Sequence.{seedWord}
 use Rattle.mersenne_twister.specs.SequenceLaws.{length-terms, terms-at}
 use Rattle.mersenne_twister.specs.Table.{seedTable, stored, renewAt, renewed, drawn, drawn64, after, wordOf}
 use Rattle.mersenne_twister.specs.DrawLaws.{in-low, in-high, word64-is}
 
+-- every entry of t has 32 bits
 abbrev pub Words : (t : List ℕ) → Type 0
 Words t = (j : ℕ) → getD t j 0 < 2 ^ 32
 
@@ -33,10 +35,12 @@ times-lt v h =
     (λ o. rw (ne-eqb (v % 2) 0 (λ e. omega arith)) (xor-lt 32 (v / 2) 0x9908b0df (omega arith) (omega arith)))
     (eq-zero-or-pos (v % 2))
 
+-- a term of the recurrence has 32 bits where the term 397 places after the first has
 pub follow-lt : (u l m : ℕ) → m < 2 ^ 32 → follow u l m < 2 ^ 32
 unfolding follow
 follow-lt u l m h = xor-lt 32 m _ h (times-lt _ (joined-lt u l))
 
+-- tempering keeps 32 bits
 pub temper-lt : (x : ℕ) → x < 2 ^ 32 → temper x < 2 ^ 32
 unfolding temper temper1 temper2 temper3 temper4
 temper-lt x h = shifted 18 (masked 15 0xefc60000 (masked 7 0x9d2c5680 (shifted 11 h)))
@@ -47,6 +51,7 @@ temper-lt x h = shifted 18 (masked 15 0xefc60000 (masked 7 0x9d2c5680 (shifted 1
     masked : {a : ℕ} (k m : ℕ) → a < 2 ^ 32 → bitXor a (bitAnd (a * 2 ^ k % 2 ^ 32) m) < 2 ^ 32
     masked {a} k m b = xor-lt 32 a _ b (omega (arith, and-le-l (a * 2 ^ k % 2 ^ 32) m))
 
+-- so does seeding
 pub seed-word-lt : (s i : ℕ) → s < 2 ^ 32 → seedWord s i < 2 ^ 32
 unfolding seedWord seedStep
 seed-word-lt s zero h = h
@@ -54,6 +59,7 @@ seed-word-lt s (suc i) h = omega arith
 
 -- ---- tables
 
+-- a list of terms that have 32 bits each
 pub words-terms : (x : ℕ → ℕ) (k n : ℕ) → ((i : ℕ) → x i < 2 ^ 32) → Words (terms x k n)
 words-terms x k n b j =
     elim (decLe n j) [
@@ -81,6 +87,7 @@ words-set t i v w h j =
           ]
     ]
 
+-- so do stores in a row, and the twist
 pub words-stored : (x : ℕ → ℕ) (n : ℕ) (t : List ℕ) → ((i : ℕ) → x i < 2 ^ 32) → Words t → Words (stored x n t)
 unfolding stored
 words-stored x zero t b w = w
@@ -94,6 +101,7 @@ words-renewed (suc n) t w =
 
 -- ---- draws
 
+-- a draw gives a word of 32 bits, and leaves a table of such words
 pub record DrawBounds (g : MersenneTwister) : Type 0 where
   pub word : drawn g .word < 2 ^ 32
   pub table : Words (drawn g .next .mt)
@@ -107,6 +115,7 @@ draw-bounds g w =
           record { word = rw (in-low (g .mt) (g .mti) l) (temper-lt _ (w (g .mti))); table = rw (in-low (g .mt) (g .mti) l) w }
     ]
 
+-- so the tables of all draws in a row have words of 32 bits, and so have the words drawn
 pub words-after : (n : ℕ) (g : MersenneTwister) → Words (g .mt) → Words (after n g .mt)
 unfolding after
 words-after zero g w = w

@@ -1,4 +1,4 @@
--- The laws of draws: one draw, what its equation says where the table is lent, draws in a row, and words of 64 bits.
+-- The laws of draws: one draw, draws in a row, and words of 64 bits.
 use mathlib.Core.List.{List}
 use mathlib.Core.Path.{_≡_, refl, sym, ap, _∙_}
 use Prim.Native.Nat.{ℕ, zero, suc, _+_, _*_, _^_, _≤_, _<_}
@@ -9,11 +9,8 @@ use borrow.Author.Tests.{lt-ltb, le-ltb}
 use lib.ListN.{length}
 use Rattle.mersenne_twister.specs.declared.MersenneTwister.{MersenneTwister}
 use Rattle.mersenne_twister.specs.declared.Drawn32.{Drawn32}
-use Rattle.mersenne_twister.specs.declared.Drawn64.{Drawn64}
-use Rattle.mersenne_twister.specs.declared.table.Step.{Step}
-use Rattle.mersenne_twister.specs.declared.table.Step64.{Step64}
 use Rattle.mersenne_twister.specs.Sequence.{Follows, StartsWith, terms}
-use Rattle.mersenne_twister.specs.Table.{renewed, drawnAt, drawnIn, drawn, drawn64, stepped, stepped64, after, wordOf}
+use Rattle.mersenne_twister.specs.Table.{renewed, drawnAt, drawnIn, drawn, drawn64, after, wordOf}
 use Rattle.mersenne_twister.specs.TableLaws.{length-renewed, twist-terms}
 
 -- ---- one draw, below the end of the table and past it
@@ -31,6 +28,7 @@ pub in-terms : (t : List ℕ) (p : ℕ) (x : ℕ → ℕ) → length t ≡ 624 �
     → drawnIn t p ≡ drawnAt (terms x 624 624) 0
 in-terms t p x n s f h = in-high t p h ∙ ap (λ (l : List ℕ). drawnAt l 0) (twist-terms t x n s f)
 
+-- a draw keeps the length of the table
 pub length-next : (g : MersenneTwister) → length (drawn g .next .mt) ≡ length (g .mt)
 length-next g =
     elim (decLe 624 (g .mti)) [
@@ -38,34 +36,9 @@ length-next g =
       | no h ↦ rw (in-low (g .mt) (g .mti) (lt-of-not-le h))
     ]
 
--- ---- what the equation of a draw over a lent table says of the word, the position and the table left
-
-pub record StepIs (r : Step) (t : List ℕ) (d : Drawn32) : Type 0 where
-  pub word : r .word ≡ d .word
-  pub mti : r .mti ≡ d .next .mti
-  pub table : t ≡ d .next .mt
-
-pub step-is : (r : Step) (t : List ℕ) (d : Drawn32) → stepped r t ≡ d → StepIs r t d
-step-is r t d e = record {
-  word = ap (λ (a : Drawn32). a .word) e;
-  mti = ap (λ (a : Drawn32). a .next .mti) e;
-  table = ap (λ (a : Drawn32). a .next .mt) e;
-}
-
-pub record Step64Is (r : Step64) (t : List ℕ) (d : Drawn64) : Type 0 where
-  pub word : r .word ≡ d .word
-  pub mti : r .mti ≡ d .next .mti
-  pub table : t ≡ d .next .mt
-
-pub step64-is : (r : Step64) (t : List ℕ) (d : Drawn64) → stepped64 r t ≡ d → Step64Is r t d
-step64-is r t d e = record {
-  word = ap (λ (a : Drawn64). a .word) e;
-  mti = ap (λ (a : Drawn64). a .next .mti) e;
-  table = ap (λ (a : Drawn64). a .next .mt) e;
-}
-
 -- ---- draws in a row
 
+-- n draws and then m are n + m
 pub after-add : (n m : ℕ) (g : MersenneTwister) → after (n + m) g ≡ after m (after n g)
 unfolding after
 after-add n zero g = ap (λ (k : ℕ). after k g) (add-zero n)
@@ -76,6 +49,7 @@ pub word-from : (n k : ℕ) (g : MersenneTwister) → wordOf g (n + k) ≡ wordO
 unfolding wordOf
 word-from n k g = ap (λ (h : MersenneTwister). drawn h .word) (after-add n k g)
 
+-- draws in a row keep the length of the table
 pub length-after : (n : ℕ) (g : MersenneTwister) → length (after n g .mt) ≡ length (g .mt)
 unfolding after
 length-after zero g = refl

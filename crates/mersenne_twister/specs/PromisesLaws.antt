@@ -2,7 +2,11 @@
 use mathlib.Core.List.{List}
 use mathlib.Core.Path.{_≡_, sym, _∙_, ap}
 use Prim.Native.Nat.{ℕ}
-use Rattle.mersenne_twister.specs.Promises.{FoldSeedPromise, FromSeedInPromise, NextU64InPromise, RandInPromise, SeedInPromise, StoredPositionPromise, TemperWordPromise, TwistInPromise, TwisterFromPartsPromise, TwisterFromSeedPromise, TwisterFromU32SeedPromise, TwisterMtiPromise, TwisterNextU64Promise, TwisterRandPromise, TwisterSeedPromise, TwisterSetMtiPromise, TwisterTwistPromise}
+use Rattle.mersenne_twister.specs.Promises.{FoldSeedPromise, FromSeedInPromise, NextU64InPromise, RandInPromise, SeedInPromise}
+use Rattle.mersenne_twister.specs.Promises.{StoredPositionPromise, TemperWordPromise, TwistInPromise, TwisterFromPartsPromise}
+use Rattle.mersenne_twister.specs.Promises.{TwisterFromSeedPromise, TwisterFromU32SeedPromise, TwisterMtiPromise}
+use Rattle.mersenne_twister.specs.Promises.{TwisterNextU64Promise, TwisterRandPromise, TwisterSeedPromise, TwisterSetMtiPromise}
+use Rattle.mersenne_twister.specs.Promises.{TwisterTwistPromise}
 use Rattle.mersenne_twister.specs.Table.{held, stepped, stepped64}
 use Rattle.mersenne_twister.specs.declared.Drawn32.{Drawn32}
 use Rattle.mersenne_twister.specs.declared.Drawn64.{Drawn64}
@@ -23,7 +27,8 @@ step64-apart h = (ap (λ (x : Drawn64). record { word = x .word; mti = x .next .
 
 -- ---- one answer
 
-pub one-twister-from-u32-seed : (seed : ℕ) {a b : MersenneTwister} → TwisterFromU32SeedPromise seed a → TwisterFromU32SeedPromise seed b → a ≡ b
+pub one-twister-from-u32-seed : (seed : ℕ) {a b : MersenneTwister}
+    → TwisterFromU32SeedPromise seed a → TwisterFromU32SeedPromise seed b → a ≡ b
 one-twister-from-u32-seed seed p q = p ∙ sym q
 
 pub one-twister-from-seed : (seed : List ℕ) {a b : MersenneTwister} → TwisterFromSeedPromise seed a → TwisterFromSeedPromise seed b → a ≡ b
@@ -32,7 +37,8 @@ one-twister-from-seed seed p q = p ∙ sym q
 pub one-twister-seed : (seed : ℕ) {a b : MersenneTwister} → TwisterSeedPromise seed a → TwisterSeedPromise seed b → a ≡ b
 one-twister-seed seed p q = p ∙ sym q
 
-pub one-twister-from-parts : (mt : List ℕ) (mti : ℕ) {a b : MersenneTwister} → TwisterFromPartsPromise mt mti a → TwisterFromPartsPromise mt mti b → a ≡ b
+pub one-twister-from-parts : (mt : List ℕ) (mti : ℕ) {a b : MersenneTwister}
+    → TwisterFromPartsPromise mt mti a → TwisterFromPartsPromise mt mti b → a ≡ b
 one-twister-from-parts mt mti p q = p ∙ sym q
 
 pub one-twister-rand : (self : MersenneTwister) {a b : Drawn32} → TwisterRandPromise self a → TwisterRandPromise self b → a ≡ b
@@ -47,28 +53,33 @@ one-twister-twist self p q = p ∙ sym q
 pub one-twister-mti : (self : MersenneTwister) {a b : ℕ} → TwisterMtiPromise self a → TwisterMtiPromise self b → a ≡ b
 one-twister-mti self p q = p ∙ sym q
 
-pub one-twister-set-mti : (self : MersenneTwister) (value : ℕ) {a b : MersenneTwister} → TwisterSetMtiPromise self value a → TwisterSetMtiPromise self value b → a ≡ b
+pub one-twister-set-mti : (self : MersenneTwister) (value : ℕ) {a b : MersenneTwister}
+    → TwisterSetMtiPromise self value a → TwisterSetMtiPromise self value b → a ≡ b
 one-twister-set-mti self value p q = p ∙ sym q
 
 pub one-stored-position : (value : ℕ) {a b : ℕ} → StoredPositionPromise value a → StoredPositionPromise value b → a ≡ b
 one-stored-position value p q = p ∙ sym q
 
-pub one-seed-in : (mt : List ℕ) (seed : ℕ) {a b : ℕ} {mt₁ mt₂ : List ℕ} → SeedInPromise mt seed a mt₁ → SeedInPromise mt seed b mt₂ → (a ≡ b) × (mt₁ ≡ mt₂)
+pub one-seed-in : (mt : List ℕ) (seed : ℕ) {a b : ℕ} {mt₁ mt₂ : List ℕ}
+    → SeedInPromise mt seed a mt₁ → SeedInPromise mt seed b mt₂ → (a ≡ b) × (mt₁ ≡ mt₂)
 one-seed-in mt seed p q = held-apart (p ∙ sym q)
 
 pub one-fold-seed : (seed : List ℕ) {a b : ℕ} → FoldSeedPromise seed a → FoldSeedPromise seed b → a ≡ b
 one-fold-seed seed p q = p ∙ sym q
 
-pub one-from-seed-in : (mt seed : List ℕ) {a b : ℕ} {mt₁ mt₂ : List ℕ} → FromSeedInPromise mt seed a mt₁ → FromSeedInPromise mt seed b mt₂ → (a ≡ b) × (mt₁ ≡ mt₂)
+pub one-from-seed-in : (mt seed : List ℕ) {a b : ℕ} {mt₁ mt₂ : List ℕ}
+    → FromSeedInPromise mt seed a mt₁ → FromSeedInPromise mt seed b mt₂ → (a ≡ b) × (mt₁ ≡ mt₂)
 one-from-seed-in mt seed p q = held-apart (p ∙ sym q)
 
 pub one-twist-in : (mt : List ℕ) {a b : ℕ} {mt₁ mt₂ : List ℕ} → TwistInPromise mt a mt₁ → TwistInPromise mt b mt₂ → (a ≡ b) × (mt₁ ≡ mt₂)
 one-twist-in mt p q = held-apart (p ∙ sym q)
 
-pub one-rand-in : (mt : List ℕ) (mti : ℕ) {a b : Step} {mt₁ mt₂ : List ℕ} → RandInPromise mt mti a mt₁ → RandInPromise mt mti b mt₂ → (a ≡ b) × (mt₁ ≡ mt₂)
+pub one-rand-in : (mt : List ℕ) (mti : ℕ) {a b : Step} {mt₁ mt₂ : List ℕ}
+    → RandInPromise mt mti a mt₁ → RandInPromise mt mti b mt₂ → (a ≡ b) × (mt₁ ≡ mt₂)
 one-rand-in mt mti p q = step-apart (p ∙ sym q)
 
-pub one-next-u64-in : (mt : List ℕ) (mti : ℕ) {a b : Step64} {mt₁ mt₂ : List ℕ} → NextU64InPromise mt mti a mt₁ → NextU64InPromise mt mti b mt₂ → (a ≡ b) × (mt₁ ≡ mt₂)
+pub one-next-u64-in : (mt : List ℕ) (mti : ℕ) {a b : Step64} {mt₁ mt₂ : List ℕ}
+    → NextU64InPromise mt mti a mt₁ → NextU64InPromise mt mti b mt₂ → (a ≡ b) × (mt₁ ≡ mt₂)
 one-next-u64-in mt mti p q = step64-apart (p ∙ sym q)
 
 pub one-temper-word : (x : ℕ) {a b : ℕ} → TemperWordPromise x a → TemperWordPromise x b → a ≡ b

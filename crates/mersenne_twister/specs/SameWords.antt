@@ -10,7 +10,8 @@ use lib.ListN.{length, getD}
 use Rattle.mersenne_twister.specs.declared.MersenneTwister.{MersenneTwister}
 use Rattle.mersenne_twister.specs.declared.Drawn32.{Drawn32}
 use Rattle.mersenne_twister.specs.Sequence.{follow, Follows, StartsWith, sequence, terms, temper, seedWord}
-use Rattle.mersenne_twister.specs.SequenceLaws.{sequence-first, follows, follows-from, length-terms, terms-at, terms-from, terms-start, start-terms}
+use Rattle.mersenne_twister.specs.SequenceLaws.{sequence-first, follows, follows-from, length-terms, terms-at, terms-from}
+use Rattle.mersenne_twister.specs.SequenceLaws.{terms-start, start-terms}
 use Rattle.mersenne_twister.specs.Table.{held, storedPosition, seedTable, seeded, renewed, drawnAt, drawnIn, drawn, after, wordOf}
 use Rattle.mersenne_twister.specs.TableLaws.{length-seed-table, twist-terms}
 use Rattle.mersenne_twister.specs.DrawLaws.{in-low, in-high, after-add}
@@ -57,8 +58,8 @@ unfolding after
 stood f p zero = rw (add-comm (min p 624) 0) (stand f 0 p)
 stood f p (suc k) = rw (add-suc, ← add-one (min p 624 + k)) (stands-next f (stood f p k))
 
--- THE THEOREM: word k from 624 words and any position p is the tempering of x_{min(p, 624) + k}, for every sequence x that starts with these
--- words and meets the recurrence
+-- THE THEOREM: word k from 624 words and any position p is the tempering of x_{min(p, 624) + k}, for every sequence x that starts with
+-- these words and meets the recurrence
 pub words : (t : List ℕ) (p : ℕ) (x : ℕ → ℕ) → length t ≡ 624 → StartsWith t x → Follows x → (k : ℕ)
     → wordOf (held t p) k ≡ temper (x (min p 624 + k))
 unfolding wordOf
@@ -79,10 +80,11 @@ pub early-words : (s k : ℕ) → k < 227 → wordOf (seeded s) k ≡ temper (fo
 early-words s k h =
     let n = length-seed-table s in
     let x = sequence (seedTable s) in
+    let f = follows (seedTable s) n in
     let first : (j : ℕ) → j < 624 → x j ≡ seedWord s j
     = λ j b. sequence-first (seedTable s) j n b ∙ seed-at s j b in
-    seeded-words s x first (follows (seedTable s) n) k
-    ∙ rw (add-comm 624 k, follows (seedTable s) n .term k, first k (omega arith), first (k + 1) (omega arith), first (k + 397) (omega arith))
+    seeded-words s x first f k
+    ∙ rw (add-comm 624 k, f .term k, first k (omega arith), first (k + 1) (omega arith), first (k + 397) (omega arith))
 
 -- ---- a position above 624 and the 624 that is stored for it: no word can tell them apart
 
@@ -97,6 +99,7 @@ from-next : (g : MersenneTwister) (k : ℕ) → after (suc k) g ≡ after k (dra
 unfolding after
 from-next g k = ap (λ (n : ℕ). after n g) (sym (one-add k)) ∙ after-add 1 k g
 
+-- word after word
 pub stored-words : (t : List ℕ) (p k : ℕ) → wordOf (held t (storedPosition p)) k ≡ wordOf (held t p) k
 unfolding wordOf after
 stored-words t p zero = ap (λ (d : Drawn32). d .word) (drawn-stored t p)

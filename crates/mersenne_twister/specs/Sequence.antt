@@ -36,39 +36,48 @@ pub record Follows (x : ℕ → ℕ) : Type 0 where
 pub record StartsWith (t : List ℕ) (x : ℕ → ℕ) : Type 0 where
   pub word : (k : ℕ) → k < 624 → x k ≡ getD t k 0
 
--- ---- such a sequence, made: 624 words stand in a row, and at each step the first leaves and the next term comes in at the end; x_k is what
--- stands first after k steps
+-- ---- such a sequence, made: 624 words stand in a row, and at each step the first leaves and the next term comes in at the end; x_k is
+-- what stands first after k steps
 
+-- one step
 unfoldable pub moved : (t : List ℕ) → List ℕ
 moved t = drop 1 t ++ follow (getD t 0 0) (getD t 1 0) (getD t 397 0) ∷ []
 
+-- n steps
 unfoldable pub movedBy : (n : ℕ) (t : List ℕ) → List ℕ
 movedBy zero t = t
 movedBy (suc n) t = movedBy n (moved t)
 
+-- x_k
 unfoldable pub sequence : (t : List ℕ) → ℕ → ℕ
 sequence t k = getD (movedBy k t) 0 0
 
 -- ---- the terms x_k .. x_{k+n-1} of any sequence
 
+-- as a list
 unfoldable pub terms : (x : ℕ → ℕ) (k n : ℕ) → List ℕ
 terms x k zero = []
 terms x k (suc n) = x k ∷ terms x (suc k) n
 
 -- ---- the tempering in the paper's four steps, with u = 11, s = 7, b = 9D2C5680, t = 15, c = EFC60000, l = 18
 
+-- y := x xor (x >> u)
 unfoldable pub temper1 : (x : ℕ) → ℕ
 temper1 x = bitXor x (x / 2 ^ 11)
 
+-- y := y xor ((y << s) and b)
 unfoldable pub temper2 : (y : ℕ) → ℕ
 temper2 y = bitXor y (bitAnd (y * 2 ^ 7 % 2 ^ 32) 0x9d2c5680)
 
+-- y := y xor ((y << t) and c)
 unfoldable pub temper3 : (y : ℕ) → ℕ
 temper3 y = bitXor y (bitAnd (y * 2 ^ 15 % 2 ^ 32) 0xefc60000)
 
+-- z := y xor (y >> l)
 unfoldable pub temper4 : (y : ℕ) → ℕ
 temper4 y = bitXor y (y / 2 ^ 18)
 
+-- the four steps in a row
 unfoldable pub temper : (x : ℕ) → ℕ
 temper x = temper4 (temper3 (temper2 (temper1 x)))
 
@@ -78,6 +87,7 @@ temper x = temper4 (temper3 (temper2 (temper1 x)))
 unfoldable pub seedStep : (p i : ℕ) → ℕ
 seedStep p i = (1812433253 * bitXor p (p / 2 ^ 30) + i) % 2 ^ 32
 
+-- the words one after the other; word 0 is the seed itself
 unfoldable pub seedWord : (s i : ℕ) → ℕ
 seedWord s zero = s
 seedWord s (suc i) = seedStep (seedWord s i) (suc i)

@@ -27,11 +27,13 @@ moved-last t n = getD-at (drop 1 t) _ [] 0 623 (rw length-drop (omega arith))
 
 -- ---- any number of places along
 
+-- the words stay 624
 pub length-moved-by : (n : ℕ) (t : List ℕ) → length t ≡ 624 → length (movedBy n t) ≡ 624
 unfolding movedBy
 length-moved-by zero t h = h
 length-moved-by (suc n) t h = length-moved-by n (moved t) (length-moved t h)
 
+-- n places and then m are n + m
 pub moved-add : (n m : ℕ) (t : List ℕ) → movedBy (n + m) t ≡ movedBy m (movedBy n t)
 unfolding movedBy
 moved-add zero m t = ap (λ (k : ℕ). movedBy k t) (zero-add m)
@@ -44,6 +46,7 @@ sequence-from t n j = ap (λ (l : List ℕ). getD l 0 0) (moved-add n j t)
 
 -- ---- `sequence` is a solution
 
+-- its first 624 terms are the words that it starts from
 pub sequence-first : (t : List ℕ) (j : ℕ) → length t ≡ 624 → j < 624 → sequence t j ≡ getD t j 0
 unfolding sequence movedBy
 sequence-first t zero n h = refl
@@ -61,6 +64,7 @@ sequence-624 t n =
 pub starts-with : (t : List ℕ) → length t ≡ 624 → StartsWith t (sequence t)
 starts-with t n = record { word = λ k h. sequence-first t k n h }
 
+-- it meets the recurrence at every place: there the words have moved, and the recurrence is that of their start
 pub follows : (t : List ℕ) → length t ≡ 624 → Follows (sequence t)
 follows t n = record {
   term = λ k. sequence-from t k 624 ∙ sequence-624 (movedBy k t) (length-moved-by k t n)
@@ -85,22 +89,26 @@ agree-below {x} {y} fx fy first (suc n) k h =
 pub agree : {x y : ℕ → ℕ} → Follows x → Follows y → ((k : ℕ) → k < 624 → x k ≡ y k) → (k : ℕ) → x k ≡ y k
 agree fx fy first k = agree-below fx fy first (suc k) k (omega arith)
 
+-- so every solution that starts with the words is `sequence`
 pub unique : (t : List ℕ) (x : ℕ → ℕ) → length t ≡ 624 → StartsWith t x → Follows x → (k : ℕ) → x k ≡ sequence t k
 unique t x n s f k = agree f (follows t n) (λ j h. s .word j h ∙ sym (sequence-first t j n h)) k
 
 -- ---- lists of terms
 
+-- n terms are n
 pub length-terms : (x : ℕ → ℕ) (k n : ℕ) → length (terms x k n) ≡ n
 unfolding terms
 length-terms x k zero = refl
 length-terms x k (suc n) = ap suc (length-terms x (suc k) n)
 
+-- entry i is the term i places on
 pub terms-at : (x : ℕ → ℕ) (k n i : ℕ) → i < n → getD (terms x k n) i 0 ≡ x (k + i)
 unfolding terms
 terms-at x k zero i h = absurd (omega arith)
 terms-at x k (suc n) zero h = ap x (sym (add-zero k))
 terms-at x k (suc n) (suc i) h = terms-at x (suc k) n i (omega arith) ∙ ap x (suc-add k i ∙ sym (add-suc k i))
 
+-- the terms of a sequence that begins b places on
 pub terms-from : (x : ℕ → ℕ) (b k n : ℕ) → terms (λ (j : ℕ). x (b + j)) k n ≡ terms x (b + k) n
 unfolding terms
 terms-from x b k zero = refl

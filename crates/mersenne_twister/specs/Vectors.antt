@@ -3,7 +3,8 @@ use Prim.Native.Nat.{ℕ, suc}
 use mathlib.Core.Path.{_≡_, refl}
 use native.Mathlib.Omega.{arith}
 use Rattle.wrapping.specs.Bytes.{little}
-use Rattle.mersenne_twister.specs.Sequence.{terms, timesA, joined, follow, temper, temper1, temper2, temper3, temper4, seedStep, seedWord}
+use Rattle.mersenne_twister.specs.Sequence.{terms, timesA, joined, follow, temper, temper1, temper2, temper3, temper4, seedStep}
+use Rattle.mersenne_twister.specs.Sequence.{seedWord}
 use Rattle.mersenne_twister.specs.Table.{seeded, wordsXored, folded, wordOf}
 use Rattle.mersenne_twister.specs.SameWords.{early-words}
 

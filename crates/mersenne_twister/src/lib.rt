@@ -3,7 +3,9 @@ mod constants;
 mod table;
 mod word;
 
-ghost use Rattle.mersenne_twister.specs.Promises.{TwisterFromU32SeedPromise, TwisterFromSeedPromise, TwisterSeedPromise, TwisterFromPartsPromise, TwisterRandPromise, TwisterNextU64Promise, TwisterTwistPromise, TwisterMtiPromise, TwisterSetMtiPromise};
+ghost use Rattle.mersenne_twister.specs.Promises.{TwisterFromU32SeedPromise, TwisterFromSeedPromise, TwisterSeedPromise};
+ghost use Rattle.mersenne_twister.specs.Promises.{TwisterFromPartsPromise, TwisterRandPromise, TwisterNextU64Promise};
+ghost use Rattle.mersenne_twister.specs.Promises.{TwisterTwistPromise, TwisterMtiPromise, TwisterSetMtiPromise};
 pub use constants::END;
 pub use table::Step;
 pub use table::Step64;
@@ -16,6 +18,7 @@ pub use table::stored_position;
 pub use table::twist_in;
 pub use word::temper_word;
 
+// The table of 624 words and the position in it, `mt` and `mti` in mt19937ar.c.
 #[repr(C)]
 pub struct MersenneTwister {
     pub mt: [u32; 624],

@@ -2,7 +2,8 @@
 ghost use mathlib.Core.Path.{_≡_};
 ghost use Prim.Native.Nat.{_<_};
 ghost use Rattle.mersenne_twister.specs.Table.{renewWith, renewed};
-ghost use Rattle.mersenne_twister.specs.Promises.{StoredPositionPromise, SeedInPromise, FoldSeedPromise, FromSeedInPromise, TwistInPromise, RandInPromise, NextU64InPromise};
+ghost use Rattle.mersenne_twister.specs.Promises.{StoredPositionPromise, SeedInPromise, FoldSeedPromise, FromSeedInPromise};
+ghost use Rattle.mersenne_twister.specs.Promises.{TwistInPromise, RandInPromise, NextU64InPromise};
 use super::constants::END;
 use super::constants::M;
 use super::constants::N;
@@ -17,6 +18,7 @@ pub struct Step {
     pub mti: u32,
 }
 
+// The same of a draw of two words as one.
 #[repr(C)]
 pub struct Step64 {
     pub word: u64,

@@ -4,12 +4,14 @@ use Rattle.random.specs.declared.backend.Backend.{Backend}
 use Rattle.random.specs.declared.backend.Backend.the-variants.{Xoshiro256PlusPlus, MersenneTwister, Pcg32, Pcg64}
 use Rattle.parts.specs.declared.read_out.Small.{Small}
 
+-- the kind's number
 abbrev pub kindOf : Backend → ℕ
 kindOf (Xoshiro256PlusPlus x) = 0
 kindOf MersenneTwister = 1
 kindOf (Pcg32 p) = 2
 kindOf (Pcg64 p) = 3
 
+-- four words, held together
 abbrev pub small : (w0 w1 w2 w3 : ℕ) → Small
 small w0 w1 w2 w3 = record { w0 = w0; w1 = w1; w2 = w2; w3 = w3 }
 

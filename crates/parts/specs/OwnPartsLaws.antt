@@ -1,6 +1,6 @@
 -- The laws of own parts: the kind and the small words fix the backend, and what two generators must share to be equal.
 use mathlib.Core.List.{List}
-use mathlib.Core.Path.{_≡_, refl, sym, _∙_, ap, ap₂}
+use mathlib.Core.Path.{_≡_, refl, sym, _∙_, ap}
 use Prim.Native.Nat.{ℕ}
 use native.Mathlib.Omega.{arith}
 use Rattle.pcg.specs.declared.pcg32.Pcg32 as pcg32-type
@@ -35,22 +35,27 @@ backend-is (Pcg64 p) (Pcg32 q) k e = absurd (omega arith)
 backend-is (Pcg64 p) (Pcg64 q) k e =
     λ i. Pcg64 (record { state = record { high = e i .w0; low = e i .w1 }; inc = record { high = e i .w2; low = e i .w3 } })
 
--- a kind other than the twister has no table of its own
-table-by : (b : Backend) (t u : List ℕ) → (kindOf b ≡ 1 → ⊥) → tablePart b t ≡ tablePart b u
+-- a kind other than the twister has no table of its own, and the twister's is the whole
+pub table-by : (b : Backend) (t u : List ℕ) → (kindOf b ≡ 1 → ⊥) → tablePart b t ≡ tablePart b u
 table-by (Xoshiro256PlusPlus x) t u h = refl
 table-by MersenneTwister t u h = absurd (h refl)
 table-by (Pcg32 p) t u h = refl
 table-by (Pcg64 p) t u h = refl
 
-twister-by : (b : Backend) (t : List ℕ) → kindOf b ≡ 1 → tablePart b t ≡ t
+pub twister-by : (b : Backend) (t : List ℕ) → kindOf b ≡ 1 → tablePart b t ≡ t
 twister-by (Xoshiro256PlusPlus x) t h = absurd (omega arith)
 twister-by MersenneTwister t h = refl
 twister-by (Pcg32 p) t h = absurd (omega arith)
 twister-by (Pcg64 p) t h = absurd (omega arith)
 
 module _ (g h : Random) where
+  -- the position where it is the kind's own
   abbrev position : Random → ℕ
   position a = positionOf (a .backend) (a .twister .mti)
+
+  -- both tables, looked at as the first generator's kind looks at them
+  abbrev OneTable : Type 0
+  OneTable = tablePart (g .backend) (g .twister .mt) ≡ tablePart (g .backend) (h .twister .mt)
 
   -- what follows of equal own parts
   pub own-backend : ownParts g ≡ ownParts h → g .backend ≡ h .backend
@@ -61,20 +66,20 @@ module _ (g h : Random) where
   unfolding ownParts
   own-position e = ap (λ (o : Own). o .position) e
 
-  pub own-table : kindOf (g .backend) ≡ 1 → ownParts g ≡ ownParts h → g .twister .mt ≡ h .twister .mt
+  pub own-table : ownParts g ≡ ownParts h → OneTable
   unfolding ownParts
-  own-table k e =
-      let l : kindOf (h .backend) ≡ 1 = ap kindOf (sym (own-backend e)) ∙ k in
-      sym (twister-by (g .backend) _ k) ∙ ap (λ (o : Own). o .table) e ∙ twister-by (h .backend) _ l
+  own-table e = ap (λ (o : Own). o .table) e ∙ ap (λ (b : Backend). tablePart b (h .twister .mt)) (sym (own-backend e))
 
-  -- and what it takes: of the twister the table too
-  pub own-twister : g .backend ≡ h .backend → position g ≡ position h → g .twister .mt ≡ h .twister .mt → ownParts g ≡ ownParts h
+  -- and what it takes
+  pub own-same : g .backend ≡ h .backend → position g ≡ position h → OneTable → ownParts g ≡ ownParts h
   unfolding ownParts
-  own-twister b p t = λ i. record { backend = b i; position = p i; table = ap₂ tablePart b t i }
+  own-same b p t =
+      let tables = t ∙ ap (λ (x : Backend). tablePart x (h .twister .mt)) b in
+      λ i. record { backend = b i; position = p i; table = tables i }
+
+  -- so of the twister the whole tables, and of the other kinds none
+  pub own-twister : g .backend ≡ h .backend → position g ≡ position h → g .twister .mt ≡ h .twister .mt → ownParts g ≡ ownParts h
+  own-twister b p t = own-same b p (ap (tablePart (g .backend)) t)
 
   pub own-other : g .backend ≡ h .backend → position g ≡ position h → (kindOf (g .backend) ≡ 1 → ⊥) → ownParts g ≡ ownParts h
-  unfolding ownParts
-  own-other b p k =
-      let t : tablePart (g .backend) (g .twister .mt) ≡ tablePart (h .backend) (h .twister .mt)
-      = table-by (g .backend) (g .twister .mt) (h .twister .mt) k ∙ ap (λ (x : Backend). tablePart x (h .twister .mt)) b in
-      λ i. record { backend = b i; position = p i; table = t i }
+  own-other b p k = own-same b p (table-by (g .backend) (g .twister .mt) (h .twister .mt) k)

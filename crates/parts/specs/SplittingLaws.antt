@@ -21,6 +21,7 @@ refused-by MersenneTwister e h = refl
 refused-by (Pcg32 p) e h = refl
 refused-by (Pcg64 p) e h = refl
 
+-- as the code meets it: the backend is known to be b
 pub split-refused : (e : Engine) (b : Backend) → e .backend ≡ b → (kindOf b ≡ 0 → ⊥) → refusedSplit e ≡ engineSplit e
 unfolding engineSplit
 split-refused e b p h = refused-by b e h ∙ ap (λ (x : Backend). engineSplitBy x e) (sym p)
@@ -35,6 +36,7 @@ module _ (g : Random) where
   answered-by (Pcg32 p) z = absurd (omega arith)
   answered-by (Pcg64 p) z = absurd (omega arith)
 
+  -- answered: the parent is joined with the table again, and the child is the generator that came
   pub split-answered : (s : EngineSplit) → s ≡ engineSplit (engineIn g) → s .refusal ≡ 0
       → record { refusal = 0; parent = joinedWith (s .parent) (g .twister .mt); child = g } ≡ splitOf g
   unfolding engineSplit splitOf
@@ -47,6 +49,7 @@ module _ (g : Random) where
   none-by (Pcg32 p) z = refl
   none-by (Pcg64 p) z = refl
 
+  -- refused: the generator that came, and zeros
   pub split-none : (s : EngineSplit) → s ≡ engineSplit (engineIn g) → (s .refusal ≡ 0 → ⊥)
       → record { refusal = s .refusal; parent = g; child = zeroGenerator } ≡ splitOf g
   unfolding engineSplit splitOf
@@ -59,6 +62,7 @@ refusal-by MersenneTwister g = (λ e. absurd (omega arith), λ e. absurd (omega 
 refusal-by (Pcg32 p) g = (λ e. absurd (omega arith), λ e. absurd (omega arith))
 refusal-by (Pcg64 p) g = (λ e. absurd (omega arith), λ e. absurd (omega arith))
 
-pub split-exactly-if : (g : Random) → (splitOf g .refusal ≡ 0 → kindOf (g .backend) ≡ 0) × (kindOf (g .backend) ≡ 0 → splitOf g .refusal ≡ 0)
+pub split-exactly-if : (g : Random)
+    → (splitOf g .refusal ≡ 0 → kindOf (g .backend) ≡ 0) × (kindOf (g .backend) ≡ 0 → splitOf g .refusal ≡ 0)
 unfolding splitOf
 split-exactly-if g = refusal-by (g .backend) g

@@ -1,11 +1,13 @@
 // Equality of generators: by kind and that kind's own parts. What a kind does not use is not looked at.
 ghost use mathlib.Core.Path.{_≡_};
 ghost use Rattle.parts.specs.Decides.{Decides};
+ghost use Rattle.parts.specs.OwnParts.{tablePart};
 ghost use Rattle.parts.specs.Promises.{SameWordsPromise, SameInPromise, SamePromise};
 use crate::position::mti_in;
 use crate::read_out::Small;
 use crate::read_out::kind;
 use crate::read_out::small_words;
+use random::Backend;
 use random::Engine;
 use random::Random;
 use random::engine_of;
@@ -29,6 +31,7 @@ pub fn same_words(a: &[u32], b: &[u32]) -> bool
     true
 }
 
+// Whether all four words are the same.
 fn same_small(x: Small, y: Small) -> bool
     ensures { λ r. ⌜ Decides r (x ≡ y) ⌝ }
 {
@@ -47,18 +50,35 @@ fn same_small(x: Small, y: Small) -> bool
     true
 }
 
+// Whether two backends are of one kind and hold the same small words, which is to say that they are equal.
+fn same_backend(x: Backend, y: Backend) -> bool
+    ensures { λ r. ⌜ Decides r (x ≡ y) ⌝ }
+{
+    let left = kind(x);
+    let right = kind(y);
+    if left != right {
+        return false;
+    }
+    same_small(small_words(x), small_words(y))
+}
+
+// Whether two tables are the same to a backend: the twister's are compared, and no other kind has one.
+fn same_tables(backend: Backend, mt: &[u32; 624], other: &[u32; 624]) -> bool
+    ensures { λ r. ⌜ Decides r (tablePart backend (now (mt .entry)) ≡ tablePart backend (now (other .entry))) ⌝ }
+{
+    if kind(backend) != 1 {
+        return true;
+    }
+    same_words(mt, other)
+}
+
 // Whether the generators of two engines and their tables are equal.
 pub fn same_in(a: Engine, mt: &[u32; 624], b: Engine, other: &[u32; 624]) -> bool
     ensures { λ r. ⌜ SameInPromise a (now (mt .entry)) b (now (other .entry)) r ⌝ }
 {
     let first = a.backend;
     let second = b.backend;
-    let left = kind(first);
-    let right = kind(second);
-    if left != right {
-        return false;
-    }
-    if !same_small(small_words(first), small_words(second)) {
+    if !same_backend(first, second) {
         return false;
     }
     let here = mti_in(a);
@@ -66,10 +86,7 @@ pub fn same_in(a: Engine, mt: &[u32; 624], b: Engine, other: &[u32; 624]) -> boo
     if here != there {
         return false;
     }
-    if left != 1 {
-        return true;
-    }
-    same_words(mt, other)
+    same_tables(first, mt, other)
 }
 
 // Whether two generators are equal.

@@ -1,5 +1,5 @@
 // The twister's position and twist, over a lent table and by value. On the other kinds they give 0, nothing and nothing.
-ghost use Rattle.parts.specs.Promises.{MtiInPromise, SetMtiInPromise, TwistInPromise, MtiPromise, SetMtiPromise, TwistPromise};
+ghost use Rattle.parts.specs.Promises.{MtiInPromise, SetMtiInPromise, PartsTwistInPromise, MtiPromise, SetMtiPromise, TwistPromise};
 use random::Backend;
 use random::Engine;
 use random::Random;
@@ -38,7 +38,7 @@ pub fn set_mti_in(e: Engine, value: u32) -> Engine
 
 // The twist; nothing for the other kinds.
 pub fn twist_in(e: Engine, mt: &mut [u32; 624]) -> Engine
-    ensures { λ r. ⌜ TwistInPromise e (now (mt .entry)) r (now (mt .exit)) ⌝ }
+    ensures { λ r. ⌜ PartsTwistInPromise e (now (mt .entry)) r (now (mt .exit)) ⌝ }
 {
     let backend = e.backend;
     match backend {
@@ -52,12 +52,14 @@ pub fn twist_in(e: Engine, mt: &mut [u32; 624]) -> Engine
     }
 }
 
+// `mti_in` by value.
 pub fn mti(g: Random) -> u32
     ensures { λ r. ⌜ MtiPromise g r ⌝ }
 {
     mti_in(engine_of(g))
 }
 
+// `set_mti_in` by value.
 pub fn set_mti(g: Random, value: u32) -> Random
     ensures { λ r. ⌜ SetMtiPromise g value r ⌝ }
 {
@@ -66,6 +68,7 @@ pub fn set_mti(g: Random, value: u32) -> Random
     with_table(e, mt)
 }
 
+// `twist_in` by value.
 pub fn twist(g: Random) -> Random
     ensures { λ r. ⌜ TwistPromise g r ⌝ }
 {

@@ -23,6 +23,7 @@ pub fn kind(backend: Backend) -> u32
     }
 }
 
+// The small words of its kind.
 pub fn small_words(backend: Backend) -> Small
     ensures { λ r. ⌜ SmallWordsPromise backend r ⌝ }
 {

@@ -11,6 +11,7 @@ use random::with_table;
 use words::refusal;
 use xoshiro::Xoshiro256PlusPlus;
 
+// What `split_in` answers; refused, the parent is as it came.
 pub struct EngineSplit {
     pub refusal: u32,
     pub parent: Engine,
@@ -38,6 +39,7 @@ pub fn split_in(e: Engine) -> EngineSplit
     }
 }
 
+// Refusal 9: the parent as it came, and a child of four zero words.
 fn no_split(e: Engine) -> EngineSplit
     ensures { λ r. ⌜ r ≡ refusedSplit e ⌝ }
 {
@@ -57,6 +59,7 @@ pub struct SplitAnswer {
     pub child: Random,
 }
 
+// `split_in` by value.
 pub fn split(g: Random) -> SplitAnswer
     ensures { λ r. ⌜ SplitPromise g r ⌝ }
 {

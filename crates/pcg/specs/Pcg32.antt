@@ -9,12 +9,15 @@ use Rattle.pcg.specs.declared.pcg32.Pcg32.{Pcg32}
 use Rattle.pcg.specs.declared.pcg32.Drawn32.{Drawn32}
 use Rattle.pcg.specs.declared.pcg32.Drawn64.{Drawn64}
 
+-- the multiplier of the step, O'Neill's for 64 bits
 abbrev pub multiplier : ℕ
 multiplier = 6364136223846793005
 
+-- the generator with this state and the increment in use
 abbrev pub parts : (state inc : ℕ) → Pcg32
 parts state inc = record { state = state; inc = inc }
 
+-- the state after a state
 abbrev pub nextState : (inc state : ℕ) → ℕ
 nextState inc state = affine 64 multiplier inc state
 
@@ -22,9 +25,11 @@ nextState inc state = affine 64 multiplier inc state
 abbrev pub output : ℕ → ℕ
 output s = rotateRight 32 (bitXor (s / 2 ^ 18) s / 2 ^ 27 % 2 ^ 32) (s / 2 ^ 59)
 
+-- the generator after a word
 abbrev pub stepped : Pcg32 → Pcg32
 stepped g = parts (nextState (g .inc) (g .state)) (g .inc)
 
+-- its word, made of the state
 abbrev pub wordOf : Pcg32 → ℕ
 wordOf g = output (g .state)
 
@@ -36,6 +41,7 @@ drawn g = record { word = wordOf g; next = stepped g }
 abbrev pub drawnTwice : Pcg32 → Drawn64
 drawnTwice g = record { word = wordOf (stepped g) * 2 ^ 32 + wordOf g; next = stepped (stepped g) }
 
+-- the generator of a seed number and a stream
 abbrev pub seeded : (seed stream : ℕ) → Pcg32
 seeded seed stream = parts (seededState 64 multiplier (increment 64 stream) seed) (increment 64 stream)
 

@@ -2,7 +2,8 @@
 use mathlib.Core.List.{List}
 use mathlib.Core.Path.{_≡_, sym, _∙_}
 use Prim.Native.Nat.{ℕ}
-use Rattle.pcg.specs.Pcg32Promises.{Pcg32FromPartsPromise, Pcg32FromSeedPromise, Pcg32FromSeedStreamPromise, Pcg32FromSlicePromise, Pcg32FromU64SeedPromise, Pcg32NextU32Promise, Pcg32NextU64Promise}
+use Rattle.pcg.specs.Pcg32Promises.{Pcg32FromPartsPromise, Pcg32FromSeedPromise, Pcg32FromSeedStreamPromise, Pcg32FromSlicePromise}
+use Rattle.pcg.specs.Pcg32Promises.{Pcg32FromU64SeedPromise, Pcg32NextU32Promise, Pcg32NextU64Promise}
 use Rattle.pcg.specs.declared.pcg32.Drawn32.{Drawn32}
 use Rattle.pcg.specs.declared.pcg32.Drawn64.{Drawn64}
 use Rattle.pcg.specs.declared.pcg32.Pcg32.{Pcg32}
@@ -10,7 +11,8 @@ use Rattle.pcg.specs.declared.pcg32.Pcg32.{Pcg32}
 pub one-pcg32-from-parts : (state inc : ℕ) {a b : Pcg32} → Pcg32FromPartsPromise state inc a → Pcg32FromPartsPromise state inc b → a ≡ b
 one-pcg32-from-parts state inc p q = p ∙ sym q
 
-pub one-pcg32-from-seed-stream : (seed stream : ℕ) {a b : Pcg32} → Pcg32FromSeedStreamPromise seed stream a → Pcg32FromSeedStreamPromise seed stream b → a ≡ b
+pub one-pcg32-from-seed-stream : (seed stream : ℕ) {a b : Pcg32}
+    → Pcg32FromSeedStreamPromise seed stream a → Pcg32FromSeedStreamPromise seed stream b → a ≡ b
 one-pcg32-from-seed-stream seed stream p q = p ∙ sym q
 
 pub one-pcg32-from-u64-seed : (seed : ℕ) {a b : Pcg32} → Pcg32FromU64SeedPromise seed a → Pcg32FromU64SeedPromise seed b → a ≡ b

@@ -12,12 +12,15 @@ use Rattle.pcg.specs.declared.pcg64.Pcg64.{Pcg64}
 use Rattle.pcg.specs.declared.pcg64.Drawn64.{Drawn64}
 use Rattle.pcg.specs.declared.pcg64.Drawn32.{Drawn32}
 
+-- the multiplier of the step, O'Neill's for 128 bits
 abbrev pub multiplier : ℕ
 multiplier = 0x2360_ED05_1FC6_5DA4_4385_DF64_9FCC_F645
 
+-- the generator with this state and the increment in use
 abbrev pub parts : (state inc : Wide) → Pcg64
 parts state inc = record { state = state; inc = inc }
 
+-- the state after a state
 abbrev pub nextState : (inc state : Wide) → Wide
 nextState inc state = wide (affine 128 multiplier (value inc) (value state))
 
@@ -25,9 +28,11 @@ nextState inc state = wide (affine 128 multiplier (value inc) (value state))
 abbrev pub output : Wide → ℕ
 output s = rotateRight 64 (bitXor (value s / 2 ^ 64) (value s % 2 ^ 64)) (value s / 2 ^ 122)
 
+-- the generator after a word
 abbrev pub stepped : Pcg64 → Pcg64
 stepped g = parts (nextState (g .inc) (g .state)) (g .inc)
 
+-- its word, made of the state
 abbrev pub wordOf : Pcg64 → ℕ
 wordOf g = output (g .state)
 
@@ -39,9 +44,11 @@ drawn g = record { word = wordOf g; next = stepped g }
 abbrev pub drawnHigh : Pcg64 → Drawn32
 drawnHigh g = record { word = wordOf g / 2 ^ 32; next = stepped g }
 
+-- the increment of a stream, held as two words
 abbrev pub incrementOf : Wide → Wide
 incrementOf stream = wide (increment 128 (value stream))
 
+-- the generator of a seed number and a stream
 abbrev pub seeded : (seed stream : ℕ) → Pcg64
 seeded seed stream = parts (wide (seededState 128 multiplier (increment 128 stream) seed)) (wide (increment 128 stream))
 

@@ -16,12 +16,15 @@ shifted w s =
     let room : s % 2 ^ w * 2 < 2 ^ w * 2 = omega (arith, mod-lt s (pow-pos w)) in
     rw (pow-suc, twice) (digits-mod (s / 2 ^ w) room)
 
+-- the increment in use: the stream without its top bit, shifted, plus 1
 pub increment-is : (w s : ℕ) → increment (suc w) s ≡ s % 2 ^ w * 2 + 1
 increment-is w s = rw (shifted w s)
 
+-- it is odd
 pub increment-odd : (w s : ℕ) → increment (suc w) s % 2 ≡ 1
 increment-odd w s = rw (shifted w s) (omega arith)
 
+-- and fits the width
 pub increment-fits : (w s : ℕ) → increment (suc w) s < 2 ^ suc w
 increment-fits w s = rw (shifted w s, pow-suc) (omega (arith, mod-lt s (pow-pos w)))
 

@@ -1,13 +1,16 @@
 // PCG-XSH-RR-64/32: a state of 64 bits and an increment, words of 32 bits.
 ghost use mathlib.Core.Path.{_≡_};
 ghost use Rattle.pcg.specs.Pcg32.{nextState, output};
-ghost use Rattle.pcg.specs.Pcg32Promises.{Pcg32FromPartsPromise, Pcg32FromSeedStreamPromise, Pcg32FromU64SeedPromise, Pcg32FromSeedPromise, Pcg32FromSlicePromise, Pcg32NextU32Promise, Pcg32NextU64Promise};
+ghost use Rattle.pcg.specs.Pcg32Promises.{Pcg32FromPartsPromise, Pcg32FromSeedStreamPromise, Pcg32FromU64SeedPromise};
+ghost use Rattle.pcg.specs.Pcg32Promises.{Pcg32FromSeedPromise, Pcg32FromSlicePromise, Pcg32NextU32Promise, Pcg32NextU64Promise};
 
+// The multiplier of the step, O'Neill's for 64 bits.
 const MULTIPLIER: u64 = 6_364_136_223_846_793_005;
 
 // What a seed number alone takes for its stream.
 const DEFAULT_STREAM: u64 = 1_442_695_040_888_963_407;
 
+// The state, and the increment in use.
 #[repr(C)]
 pub struct Pcg32 {
     pub state: u64,
@@ -63,6 +66,7 @@ impl Pcg32 {
         }
     }
 
+    // From a seed number alone, with the default stream.
     pub fn from_u64_seed(seed: u64) -> Pcg32
         ensures { λ r. ⌜ Pcg32FromU64SeedPromise seed r ⌝ }
     {

@@ -1,9 +1,11 @@
 // PCG-XSL-RR-128/64: a state and an increment of 128 bits each, words of 64 bits.
 ghost use mathlib.Core.Path.{_≡_};
 ghost use Rattle.pcg.specs.Pcg64.{nextState, output, incrementOf};
-ghost use Rattle.pcg.specs.Pcg64Promises.{Pcg64FromPartsPromise, Pcg64FromSeedStreamPromise, Pcg64FromU128SeedPromise, Pcg64FromSeedPromise, Pcg64FromSlicePromise, Pcg64NextU64Promise, Pcg64NextU32Promise};
+ghost use Rattle.pcg.specs.Pcg64Promises.{Pcg64FromPartsPromise, Pcg64FromSeedStreamPromise, Pcg64FromU128SeedPromise};
+ghost use Rattle.pcg.specs.Pcg64Promises.{Pcg64FromSeedPromise, Pcg64FromSlicePromise, Pcg64NextU64Promise, Pcg64NextU32Promise};
 use wrapping::Wide;
 
+// The multiplier of the step, O'Neill's for 128 bits.
 const MULTIPLIER: Wide = Wide {
     high: 0x2360_ED05_1FC6_5DA4,
     low: 0x4385_DF64_9FCC_F645,
@@ -15,6 +17,7 @@ const DEFAULT_STREAM: Wide = Wide {
     low: 0x1405_7B7E_F767_814F,
 };
 
+// The state, and the increment in use.
 #[repr(C)]
 pub struct Pcg64 {
     pub state: Wide,
@@ -76,6 +79,7 @@ impl Pcg64 {
         Pcg64 { state, inc }
     }
 
+    // From a seed number alone, with the default stream.
     pub fn from_u128_seed(seed: Wide) -> Pcg64
         ensures { λ r. ⌜ Pcg64FromU128SeedPromise seed r ⌝ }
     {

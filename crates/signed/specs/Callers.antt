@@ -12,6 +12,7 @@ use Rattle.signed.specs.Signed.{wrappedSum, gap}
 use Rattle.signed.specs.SignedLaws.{sum-exact}
 use Rattle.signed.specs.GapLaws.{gap-fits}
 
+-- what the machine reads back of the 32 bits of z
 abbrev pub read : ℤ → ℤ
 read z = toZ w32 (ofZ w32 z)
 
@@ -32,7 +33,8 @@ module _ {min max : ℤ} (f : SFits w32 min) (g : SFits w32 max) where
   span-read h = rw (arg-read g, arg-read f) at h
 
   -- the answer of `wrapping_add_signed`, where the word that is added is at most the span
-  pub sum-read : {s v : ℕ} {r : ℤ} → s ≡ gap (read min) (read max) → v ≤ s → mag r < 2 ^ 31 → r ≡ wrappedSum 32 (read min) v → read r ≡ min +ℤ pos v
+  pub sum-read : {s v : ℕ} {r : ℤ}
+      → s ≡ gap (read min) (read max) → v ≤ s → mag r < 2 ^ 31 → r ≡ wrappedSum 32 (read min) v → read r ≡ min +ℤ pos v
   sum-read {s} {v} {r} e q small h =
       let fits : SFits w32 (min +ℤ pos v) = gap-fits f g (rw (span-read e) at q) in
       result-read w32 r small ∙ h ∙ rw (arg-read f) (sum-exact w32 min v fits)

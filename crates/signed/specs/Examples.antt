@@ -1,4 +1,5 @@
--- Worked examples of the definitions (document 01): `int` over its full span, from -1 to 1 and from 5 to 5, and words at the ends of their halves.
+-- Worked examples of the definitions (document 01): `int` over its full span, from -1 to 1 and from 5 to 5, and words at the ends of their
+-- halves.
 use mathlib.Core.Path.{_≡_, refl}
 use lib.IntN.{ℤ, pos, negℤ}
 use Rattle.signed.specs.Signed.{signedOf, wrappedSum, gap}
@@ -7,6 +8,7 @@ use Rattle.signed.specs.Signed.{signedOf, wrappedSum, gap}
 abbrev least : ℤ
 least = negℤ (pos 2147483648)
 
+-- the greatest number of 32 bits
 abbrev greatest : ℤ
 greatest = pos 2147483647
 

@@ -13,6 +13,7 @@ use Rattle.signed.specs.Signed.{orZero, gap}
 
 -- ---- the gap by the signs
 
+-- how far max is above min, in naturals, sign by sign
 abbrev apart : (min max : ℤ) → ℕ
 apart (pos b) (pos a) = a - b
 apart (negsuc b) (pos a) = a + suc b
@@ -82,9 +83,11 @@ sum-mono (negsuc a) m n h = record { le = go (ltb m (suc a)) refl (ltb n (suc a)
     go false d true e = let j = ltb-false m (suc a) d in let k = ltb-true n (suc a) e in absurd (omega arith)
     go false d false e = rw (d, e) (le→leb (m - suc a) (n - suc a) (omega arith))
 
+-- it is at least min
 pub gap-least : (min : ℤ) (v : ℕ) → min ≤ℤ (min +ℤ pos v)
 gap-least min v = subst (λ (x : ℤ). x ≤ℤ (min +ℤ pos v)) (+ℤ-idr min) (sum-mono min 0 v (omega arith))
 
+-- and at most max
 pub gap-most : (min max : ℤ) (v : ℕ) → ltZ max min ≡ false → v ≤ gap min max → (min +ℤ pos v) ≤ℤ max
 gap-most min max v h q = subst (λ (x : ℤ). (min +ℤ pos v) ≤ℤ x) (gap-top min max h) (sum-mono min v (gap min max) q)
 
@@ -117,7 +120,8 @@ gap-small {min} {max} f g = rw (gap-apart min max) (go f g)
     go {min = pos b} {max = negsuc a} f g = omega arith
 
 -- the largest gap is that of the least and the greatest of them, and of no others
-pub gap-full : {min max : ℤ} → SFits w32 min → SFits w32 max → gap min max ≡ 2 ^ 32 - 1 → (min ≡ negsuc (2 ^ 31 - 1)) × (max ≡ pos (2 ^ 31 - 1))
+pub gap-full : {min max : ℤ}
+    → SFits w32 min → SFits w32 max → gap min max ≡ 2 ^ 32 - 1 → (min ≡ negsuc (2 ^ 31 - 1)) × (max ≡ pos (2 ^ 31 - 1))
 gap-full {min} {max} f g e = go f g (sym (gap-apart min max) ∙ e)
   where
     go : {min max : ℤ} → SFits w32 min → SFits w32 max → apart min max ≡ 2 ^ 32 - 1 → (min ≡ negsuc (2 ^ 31 - 1)) × (max ≡ pos (2 ^ 31 - 1))

@@ -2,7 +2,10 @@
 pub mod Signed
 pub mod SignedLaws
 pub mod GapLaws
-pub mod Steps
+pub mod UpperHalf
+pub mod Widening
+pub mod Lifting
+pub mod Spanning
 pub mod Callers
 pub mod Examples
 pub mod Promises

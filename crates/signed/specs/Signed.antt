@@ -1,4 +1,5 @@
--- Signed numbers and words, over the integers (document 01: "i32 minimum, span worked out in i64, drawn word added modulo 2^32 and read back as signed").
+-- Signed numbers and words, over the integers (document 01: "i32 minimum, span worked out in i64, drawn word added modulo 2^32 and read
+-- back as signed").
 use mathlib.Core.Bool.{cond}
 use Prim.Native.Nat.{ℕ, suc, _-_, _%_, _^_}
 use lib.Dec.{ltb}

@@ -57,9 +57,11 @@ word-is w (negsuc n) f = rw (mod-eq-of-lt (half-full w (f .sfits)))
 pub signed-fits : (w : Width) (n : ℕ) → n < 2 ^ bits w → SFits w (signedOf (bits w) n)
 signed-fits w n h = rw (← signed-is w n h) (toZ-fits w n (record { fits = h }))
 
+-- a number of the type, as a word and read back, is itself
 pub read-back : (w : Width) (z : ℤ) → SFits w z → signedOf (bits w) (wordOf (bits w) z) ≡ z
 read-back w z f = rw (word-is w z f, ← signed-is w (ofZ w z) (ofZ-fits w z f .fits)) (toZ-ofZ w z f)
 
+-- and a word, read as signed and as a word again, is itself
 pub word-back : (w : Width) (n : ℕ) → n < 2 ^ bits w → wordOf (bits w) (signedOf (bits w) n) ≡ n
 word-back w n h =
     rw (word-is w _ (signed-fits w n h), ← signed-is w n h) (ofZ-toZ w n (record { fits = h }))

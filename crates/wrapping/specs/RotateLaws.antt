@@ -16,12 +16,13 @@ turned w x j k e h =
     shifted : (x * 2 ^ k) % 2 ^ w ≡ x % 2 ^ j * 2 ^ k
     shifted = rw (← e, mod-pow-add, shl-shr, mul-mod-left) (omega arith)
 
--- by nothing, and by the whole width
+-- by nothing
 pub turn-none : (w x : ℕ) → x < 2 ^ w → turn w x 0 ≡ x
 turn-none w x h =
     let all : w - 0 ≡ w = omega arith in
     rw (all, mul-one, mod-eq-of-lt h, div-eq-of-lt h) (omega arith)
 
+-- by the whole width
 pub turn-whole : (w x : ℕ) → turn w x w ≡ x
 turn-whole w x =
     let none : w - w ≡ 0 = omega arith in

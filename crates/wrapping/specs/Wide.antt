@@ -10,8 +10,10 @@ value a = a .high * 2 ^ 64 + a .low
 abbrev pub wide : ℕ → Wide
 wide n = record { high = n / 2 ^ 64; low = n % 2 ^ 64 }
 
+-- the sum modulo 2 ^ 128
 abbrev pub wideSum : Wide → Wide → Wide
 wideSum a b = wide ((value a + value b) % 2 ^ 128)
 
+-- the product modulo 2 ^ 128
 abbrev pub wideProduct : Wide → Wide → Wide
 wideProduct a b = wide ((value a * value b) % 2 ^ 128)

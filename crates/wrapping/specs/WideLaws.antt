@@ -9,9 +9,11 @@ use Rattle.wrapping.specs.declared.wide.Wide.{Wide}
 
 -- ---- a number and its words
 
+-- a number is what its two words hold
 pub value-wide : (n : ℕ) → value (wide n) ≡ n
 value-wide n = div-add-mod' n (2 ^ 64)
 
+-- and the two words are read off the number
 pub high-word : (a : Wide) → a .low < 2 ^ 64 → value a / 2 ^ 64 ≡ a .high
 high-word a h = high (a .high) 64 h
 
@@ -34,6 +36,7 @@ words-are r h l p q = (λ i. record { high = (p ∙ sym above) i; low = (q ∙ s
     below : (h * 2 ^ 64 + l) % 2 ^ 128 % 2 ^ 64 ≡ l % 2 ^ 64
     below = mod-mod-pow (h * 2 ^ 64 + l) 64 64 ∙ mul-add-mod-self-right h (2 ^ 64) l
 
+-- the words of a sum: the carry of the low words goes into the high one
 pub sum-words : (r a b : Wide) → r .high ≡ (a .high + b .high + (a .low + b .low) / 2 ^ 64) % 2 ^ 64
     → r .low ≡ (a .low + b .low) % 2 ^ 64 → r ≡ wideSum a b
 sum-words r a b p q =
@@ -49,6 +52,7 @@ uncarried s x y hx hy e l = omega arith
 multiplied-out : (P a₁ a₀ b₁ b₀ : ℕ) → (a₁ * b₁ * P + (a₁ * b₀ + a₀ * b₁)) * P + a₀ * b₀ ≡ (a₁ * P + a₀) * (b₁ * P + b₀)
 multiplied-out P a₁ a₀ b₁ b₀ = omega arith
 
+-- the words of a product: the high one has the low words' upper product and both cross products
 pub product-words : (r a b : Wide) → r .high ≡ (a .high * b .low + a .low * b .high + a .low * b .low / 2 ^ 64) % 2 ^ 64
     → r .low ≡ (a .low * b .low) % 2 ^ 64 → r ≡ wideProduct a b
 product-words r a b p q =

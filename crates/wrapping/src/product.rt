@@ -25,6 +25,7 @@ struct Columns {
     third: u64,
 }
 
+// The columns of a * b.
 fn in_columns(f: Factors) -> Columns
     ensures { λ r. ⌜ r ≡ columnsOf (f .a) (f .b) ⌝ }
 {

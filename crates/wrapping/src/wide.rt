@@ -3,6 +3,7 @@ ghost use Rattle.wrapping.specs.Promises.{WideWrappingAddPromise, WideWr
 use super::product::mul_u64;
 use super::product::upper_u64;
 
+// The high and the low word of 64 bits.
 #[repr(C)]
 pub struct Wide {
     pub high: u64,

@@ -10,6 +10,7 @@ use Rattle.xoshiro.specs.declared.Xoshiro256PlusPlus.{Xoshiro256PlusPlus
 use Rattle.xoshiro.specs.declared.jump.Jumping.{Jumping}
 use Rattle.xoshiro.specs.Generator.{parts, stepped}
 
+-- the authors' JUMP
 abbrev pub jumpWords : List ℕ
 jumpWords = 0x180E_C6D3_3CFD_0ABA ∷ 0xD5A6_1266_F0C9_392C ∷ 0xA958_2618_E03F_C9AA ∷ 0x39AB_DC45_29B1_661C ∷ []
 
@@ -21,6 +22,7 @@ jumpBit i = getD jumpWords (i / 64) 0 / 2 ^ (i % 64) % 2
 abbrev pub xored : Xoshiro256PlusPlus → Xoshiro256PlusPlus → Xoshiro256PlusPlus
 xored x y = parts (bitXor (x .s0) (y .s0)) (bitXor (x .s1) (y .s1)) (bitXor (x .s2) (y .s2)) (bitXor (x .s3) (y .s3))
 
+-- the sum of the states, with one more where the bit is 1
 abbrev pub picked : (isOne : Bool) (x y : Xoshiro256PlusPlus) → Xoshiro256PlusPlus
 picked true x y = xored x y
 picked false x y = x
@@ -34,5 +36,6 @@ unfoldable pub jumping : ℕ → Xoshiro256PlusPlus → Jumping
 jumping zero x = record { sum = parts 0 0 0 0; at = x }
 jumping (suc n) x = turned n (jumping n x)
 
+-- after all 256 bits, the sum is the new state
 unfoldable pub jumped : Xoshiro256PlusPlus → Xoshiro256PlusPlus
 jumped x = jumping 256 x .sum

@@ -14,6 +14,7 @@ abbrev pub replaced : (isZero : Bool) (seed : ℕ) → ℕ
 replaced true seed = 0xBAD1_DEAA_5BD1_CAFE
 replaced false seed = seed
 
+-- a seed number, 0 replaced
 abbrev pub nonzeroSeed : ℕ → ℕ
 nonzeroSeed seed = replaced (eqb seed 0) seed
 
@@ -26,6 +27,7 @@ fourWords x =
     let d = nextState c in
     parts (mixed a) (mixed b) (mixed c) (mixed d)
 
+-- the generator of a seed number
 abbrev pub seeded : ℕ → Xoshiro256PlusPlus
 seeded seed = fourWords (nonzeroSeed seed)
 
@@ -33,5 +35,6 @@ seeded seed = fourWords (nonzeroSeed seed)
 abbrev pub xorOfWords : List ℕ → ℕ
 xorOfWords s = bitXor (bitXor (bitXor (little 8 s 0) (little 8 s 8)) (little 8 s 16)) (little 8 s 24)
 
+-- the generator of a byte seed
 abbrev pub seededBytes : List ℕ → Xoshiro256PlusPlus
 seededBytes s = seeded (xorOfWords s)

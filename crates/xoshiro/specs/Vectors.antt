@@ -5,6 +5,7 @@ use Rattle.xoshiro.specs.Generator.{parts, result, stepped}
 use Rattle.xoshiro.specs.Jump.{turned, jumping, jumped}
 use Rattle.xoshiro.specs.SplitMix64.{nextState, mixed}
 
+-- the state of the examples
 abbrev small : Xoshiro256PlusPlus
 small = parts 1 2 3 4
 

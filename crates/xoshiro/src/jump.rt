@@ -1,9 +1,11 @@
 // The authors' jump: over the 256 bits of four constants, the states at the bits that are 1 are XORed.
 ghost use mathlib.Core.Path.{_≡_};
 ghost use Prim.Native.Nat.{_<_};
-ghost use Rattle.xoshiro.specs.Jump.{jumpBit, xored, turned, jumped};
+ghost use Rattle.xoshiro.specs.Jump.{jumpBit, xored, turned};
+ghost use Rattle.xoshiro.specs.Promises.{XoshiroJumpPromise};
 use super::Xoshiro256PlusPlus;
 
+// The authors' constants.
 const JUMP: [u64; 4] = [
     0x180E_C6D3_3CFD_0ABA,
     0xD5A6_1266_F0C9_392C,
@@ -56,20 +58,26 @@ fn turn(j: Jumping, i: usize) -> Jumping
     }
 }
 
-pub(crate) fn all_turns(g: Xoshiro256PlusPlus) -> Xoshiro256PlusPlus
-    ensures { λ r. ⌜ r ≡ jumped g ⌝ }
-{
-    let none = Xoshiro256PlusPlus {
-        s0: 0,
-        s1: 0,
-        s2: 0,
-        s3: 0,
-    };
-    let mut j = Jumping { sum: none, at: g };
-    let mut i: usize = 0;
-    while i < 256 {
-        j = turn(j, i);
-        i += 1;
+impl Xoshiro256PlusPlus {
+    // As many steps on as the authors' jump goes, which they say is 2^128: all 256 turns, from a sum of zeros.
+    pub fn jump(self) -> Xoshiro256PlusPlus
+        ensures { λ r. ⌜ XoshiroJumpPromise self r ⌝ }
+    {
+        let none = Xoshiro256PlusPlus {
+            s0: 0,
+            s1: 0,
+            s2: 0,
+            s3: 0,
+        };
+        let mut j = Jumping {
+            sum: none,
+            at: self,
+        };
+        let mut i: usize = 0;
+        while i < 256 {
+            j = turn(j, i);
+            i += 1;
+        }
+        j.sum
     }
-    j.sum
 }

@@ -1,11 +1,13 @@
-// Blackman and Vigna's xoshiro256++ 1.0, as the Rust's xoshiro.rs has it: four words of state, seeded through SplitMix64.
+// Blackman and Vigna's xoshiro256++ 1.0, as the Rust's xoshiro.rs has it: four words of state, and draws. How it is seeded and how it jumps
+// stand in files of their own.
 ghost use mathlib.Core.Path.{_≡_};
 ghost use Rattle.xoshiro.specs.Generator.{result, stepped};
-ghost use Rattle.xoshiro.specs.Promises.{XoshiroFromPartsPromise, XoshiroFromU64SeedPromise, XoshiroFromSeedPromise, XoshiroFromSlicePromise, XoshiroNextU64Promise, XoshiroNextU32Promise, XoshiroJumpPromise};
+ghost use Rattle.xoshiro.specs.Promises.{XoshiroFromPartsPromise, XoshiroNextU64Promise, XoshiroNextU32Promise};
 
 mod jump;
 mod seed;
 
+// The four words of state, s[0] to s[3] in the authors' file.
 #[repr(C)]
 pub struct Xoshiro256PlusPlus {
     pub s0: u64,
@@ -36,27 +38,6 @@ impl Xoshiro256PlusPlus {
         Xoshiro256PlusPlus { s0, s1, s2, s3 }
     }
 
-    // Four words of SplitMix64, from a seed number; 0 is replaced.
-    pub fn from_u64_seed(seed: u64) -> Xoshiro256PlusPlus
-        ensures { λ r. ⌜ XoshiroFromU64SeedPromise seed r ⌝ }
-    {
-        seed::primed(seed::nonzero(seed))
-    }
-
-    // The same from 32 bytes: their four little-endian words, XORed, are the seed number.
-    pub fn from_seed(seed: [u8; 32]) -> Xoshiro256PlusPlus
-        ensures { λ r. ⌜ XoshiroFromSeedPromise seed r ⌝ }
-    {
-        Xoshiro256PlusPlus::from_slice(&seed)
-    }
-
-    // The same from a list of 32 bytes; what a shorter one lacks counts as 0, and what a longer one has beyond is not looked at.
-    pub fn from_slice(seed: &[u8]) -> Xoshiro256PlusPlus
-        ensures { λ r. ⌜ XoshiroFromSlicePromise (now (seed .entry)) r ⌝ }
-    {
-        Xoshiro256PlusPlus::from_u64_seed(seed::folded(seed))
-    }
-
     // The word that this state gives.
     fn word(self) -> u64
         ensures { λ r. ⌜ r ≡ result self ⌝ }
@@ -82,6 +63,7 @@ impl Xoshiro256PlusPlus {
         }
     }
 
+    // The next word. It is made of the old state.
     pub fn next_u64(self) -> Drawn64
         ensures { λ r. ⌜ XoshiroNextU64Promise self r ⌝ }
     {
@@ -100,12 +82,5 @@ impl Xoshiro256PlusPlus {
             word: (d.word >> 32) as u32,
             next,
         }
-    }
-
-    // As many steps on as the authors' jump goes, which they say is 2^128.
-    pub fn jump(self) -> Xoshiro256PlusPlus
-        ensures { λ r. ⌜ XoshiroJumpPromise self r ⌝ }
-    {
-        jump::all_turns(self)
     }
 }

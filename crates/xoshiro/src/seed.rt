@@ -1,9 +1,11 @@
 // How a seed becomes four words of state: SplitMix64, and the one place that replaces a seed of 0.
 ghost use mathlib.Core.Path.{_≡_};
+ghost use Rattle.xoshiro.specs.Promises.{XoshiroFromU64SeedPromise, XoshiroFromSeedPromise, XoshiroFromSlicePromise};
 ghost use Rattle.xoshiro.specs.Seed.{nonzeroSeed, fourWords, xorOfWords};
 ghost use Rattle.xoshiro.specs.SplitMix64.{nextState, mixed};
 use super::Xoshiro256PlusPlus;
 
+// The number that stands in for a seed of 0.
 const ZERO_SEED: u64 = 0xBAD1_DEAA_5BD1_CAFE;
 
 // The next word of SplitMix64; its state moves on.
@@ -14,6 +16,7 @@ fn splitmix64(state: &mut u64) -> u64
     mix(*state)
 }
 
+// The word that a state of SplitMix64 gives.
 fn mix(z: u64) -> u64
     ensures { λ r. ⌜ r ≡ mixed z ⌝ }
 {
@@ -23,14 +26,14 @@ fn mix(z: u64) -> u64
 }
 
 // The seed, or the number that stands in for 0.
-pub(crate) fn nonzero(seed: u64) -> u64
+fn nonzero(seed: u64) -> u64
     ensures { λ r. ⌜ r ≡ nonzeroSeed seed ⌝ }
 {
     if seed == 0 { ZERO_SEED } else { seed }
 }
 
 // The first four words of SplitMix64 from the state `seed`.
-pub(crate) fn primed(seed: u64) -> Xoshiro256PlusPlus
+fn primed(seed: u64) -> Xoshiro256PlusPlus
     ensures { λ r. ⌜ r ≡ fourWords seed ⌝ }
 {
     let mut state = seed;
@@ -42,7 +45,7 @@ pub(crate) fn primed(seed: u64) -> Xoshiro256PlusPlus
 }
 
 // The four little-endian words of 32 bytes, XORed.
-pub(crate) fn folded(seed: &[u8]) -> u64
+fn folded(seed: &[u8]) -> u64
     ensures { λ r. ⌜ r ≡ xorOfWords (now (seed .entry)) ⌝ }
 {
     let a = wrapping::le_u64(seed, 0);
@@ -50,4 +53,27 @@ pub(crate) fn folded(seed: &[u8]) -> u64
     let c = wrapping::le_u64(seed, 16);
     let d = wrapping::le_u64(seed, 24);
     a ^ b ^ c ^ d
+}
+
+impl Xoshiro256PlusPlus {
+    // Four words of SplitMix64, from a seed number; 0 is replaced.
+    pub fn from_u64_seed(seed: u64) -> Xoshiro256PlusPlus
+        ensures { λ r. ⌜ XoshiroFromU64SeedPromise seed r ⌝ }
+    {
+        primed(nonzero(seed))
+    }
+
+    // The same from 32 bytes: their four little-endian words, XORed, are the seed number.
+    pub fn from_seed(seed: [u8; 32]) -> Xoshiro256PlusPlus
+        ensures { λ r. ⌜ XoshiroFromSeedPromise seed r ⌝ }
+    {
+        Xoshiro256PlusPlus::from_slice(&seed)
+    }
+
+    // The same from a list of 32 bytes; what a shorter one lacks counts as 0, and what a longer one has beyond is not looked at.
+    pub fn from_slice(seed: &[u8]) -> Xoshiro256PlusPlus
+        ensures { λ r. ⌜ XoshiroFromSlicePromise (now (seed .entry)) r ⌝ }
+    {
+        Xoshiro256PlusPlus::from_u64_seed(folded(seed))
+    }
 }

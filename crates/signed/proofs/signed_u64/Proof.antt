@@ -1,10 +1,10 @@
--- `signed_u64` meets its contract.
+-- `signed_u64` meets its contract: a word of the lower half is itself, and one of the upper half is less by the half, twice.
 use mathlib.Core.Path.{refl}
 use native.Mathlib.Omega.{arith}
 use mir.Syntax.{w64}
 use borrow.Author.Needs.{needs}
 use Rattle.signed.specs.SignedLaws.{signed-is}
-use Rattle.signed.specs.Steps.{upper-fits, upper-read}
+use Rattle.signed.specs.UpperHalf.{upper-fits, upper-read}
 use Rattle.signed.proofs.signed_u64.Statement.{statement}
 use Rattle.signed.proofs.signed_u64.Tie as tie
 

@@ -1,8 +1,9 @@
--- `span_of` meets its contract.
+-- `span_of` meets its contract: the difference in 64 bits is the gap where it is not below zero.
 use mathlib.Core.Path.{ap}
 use lib.IntN.{natAbs}
 use Rattle.signed.specs.GapLaws.{gap-small}
-use Rattle.signed.specs.Steps.{widen-fits, span-fits, span-below, span-above}
+use Rattle.signed.specs.Spanning.{span-fits, span-below, span-above}
+use Rattle.signed.specs.Widening.{widen-fits}
 use Rattle.signed.proofs.span_of.Statement.{statement}
 use Rattle.signed.proofs.span_of.Tie as tie
 
@@ -21,10 +22,14 @@ cast-result c =
     rw (span-above (s .min) (s .max) (c .if1 .left)) (tt, record { fits = gap-small (s .min) (s .max) })
 
 returns : tie.Need-returns
-returns c = span-below (c .before .fits .min) (c .before .fits .max) (c .if1 .taken)
+returns c =
+    let s = c .before .fits in
+    span-below (s .min) (s .max) (c .if1 .taken)
 
 returns-2 : tie.Need-returns-2
-returns-2 c = ap natAbs (span-above (c .before .fits .min) (c .before .fits .max) (c .if1 .left))
+returns-2 c =
+    let s = c .before .fits in
+    ap natAbs (span-above (s .min) (s .max) (c .if1 .left))
 
 pub span-of-spec : {M : Type 1} → statement M
 span-of-spec = tie.close (tie.spec cast-span cast-span-2 sub-span cast-result returns returns-2)

@@ -1,10 +1,11 @@
--- `wrapping_add_signed` meets its contract.
+-- `wrapping_add_signed` meets its contract: x + 2 ^ 32 and the word are summed and reduced, and that word is read as signed.
 use native.Mathlib.Omega.{arith}
 use mathlib.Core.Path.{_∙_, ap}
 use mir.Syntax.{w32}
 use borrow.Author.Needs.{needs}
 use Rattle.signed.specs.Signed.{signedOf, wrappedSum}
-use Rattle.signed.specs.Steps.{widen-fits, lift-fits, lift-small, lifted, lift-word}
+use Rattle.signed.specs.Lifting.{lift-fits, lift-small, lifted, lift-word}
+use Rattle.signed.specs.Widening.{widen-fits}
 use Rattle.signed.specs.Callers.{result-read}
 use Rattle.signed.proofs.wrapping_add_signed.Statement.{statement}
 use Rattle.signed.proofs.wrapping_add_signed.Tie as tie

@@ -33,7 +33,10 @@ sub-put-few : tie.Need-sub-put-few
 sub-put-few c = mod-le _ _
 
 put-few-requires : tie.Need-put-few-requires
-put-few-requires c κs = rw (c .before .before .before .before .before .before .whole-words .ensures .size) (tail-fits _ _)
+put-few-requires c κs =
+    let test = c .before .before .before in
+    let whole = test .before .before .before in
+    rw (whole .whole-words .ensures .size) (tail-fits _ _)
 
 same-length-2 : tie.Need-same-length-2
 same-length-2 c = search needs
@@ -41,12 +44,14 @@ same-length-2 c = search needs
 returns-2 : tie.Need-returns-2
 unfolding ownOf
 returns-2 c =
-    let drawn = c .before .before .before .before .before .next-own .ensures in
-    let test = c .before .before .before .before .before .before .before in
+    let put = c .before .before .before in
+    let drawn = put .before .before in
+    let test = drawn .before .before in
     let whole = test .before .before .before in
     let width = whole .before .before .before .width .ensures in
-    rw (c .before .before .before .put-few .ensures, width)
-    (filled-tail (whole .whole-words .ensures) _ _ (rw width at (test .if1 .left)) (ap (λ (d : Word64). d .word) drawn) (ap (λ (d : Word64). d .next) drawn))
+    let word = ap (λ (d : Word64). d .word) (drawn .next-own .ensures) in
+    let next = ap (λ (d : Word64). d .next) (drawn .next-own .ensures) in
+    rw (put .put-few .ensures, width) (filled-tail (whole .whole-words .ensures) _ _ (rw width at (test .if1 .left)) word next)
 
 pub fill-bytes-in-spec : {M : Type 1} → statement M
 fill-bytes-in-spec =

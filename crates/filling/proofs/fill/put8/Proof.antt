@@ -18,7 +18,10 @@ same-length : tie.Need-same-length
 same-length c = search needs
 
 returns : tie.Need-returns
-returns c = c .before .before .put42 .ensures ∙ rw (c .before .before .before .before .before .before .put4 .ensures) (poke-eight _ _ _)
+returns c =
+    let second = c .before .before in
+    let first = second .before .before .before .before in
+    second .put42 .ensures ∙ rw (first .put4 .ensures) (poke-eight _ _ _)
 
 pub put8-spec : {M : Type 1} → statement M
 put8-spec = tie.close (tie.spec put4-requires add-put4 put4-requires-2 same-length returns)

@@ -1,4 +1,4 @@
--- `whole_words` meets its contract, kind by kind.
+-- `whole_words` meets its contract, kind by kind: what the loop of a kind writes is what its generator's own words are.
 use borrow.Author.Needs.{needs}
 use Rattle.filling.specs.FillKinds.{xoshiro-own, twister-own, pcg32-own, pcg64-own}
 use Rattle.filling.proofs.fill.whole_words.Statement.{statement}
@@ -32,25 +32,33 @@ same-length : tie.Need-same-length
 same-length c = search needs
 
 returns : tie.Need-returns
-returns c = rw (c .before .before .before .before .before .backend .given .1) (xoshiro-own _ (c .before .before .words-of-xoshiro .ensures))
+returns c =
+    let words = c .before .before in
+    rw (words .before .before .before .backend .given .1) (xoshiro-own _ (words .words-of-xoshiro .ensures))
 
 same-length-2 : tie.Need-same-length-2
 same-length-2 c = search needs
 
 returns-2 : tie.Need-returns-2
-returns-2 c = rw (c .before .before .before .before .before .enum-told .given .1) (twister-own (c .before .before .words-of-twister .ensures))
+returns-2 c =
+    let words = c .before .before in
+    rw (words .before .before .before .enum-told .given .1) (twister-own (words .words-of-twister .ensures))
 
 same-length-3 : tie.Need-same-length-3
 same-length-3 c = search needs
 
 returns-3 : tie.Need-returns-3
-returns-3 c = rw (c .before .before .before .before .before .backend2 .given .1) (pcg32-own _ (c .before .before .words-of-pcg32 .ensures))
+returns-3 c =
+    let words = c .before .before in
+    rw (words .before .before .before .backend2 .given .1) (pcg32-own _ (words .words-of-pcg32 .ensures))
 
 same-length-4 : tie.Need-same-length-4
 same-length-4 c = search needs
 
 returns-4 : tie.Need-returns-4
-returns-4 c = rw (c .before .before .before .before .before .backend3 .given .1) (pcg64-own _ (c .before .before .words-of-pcg64 .ensures))
+returns-4 c =
+    let words = c .before .before in
+    rw (words .before .before .before .backend3 .given .1) (pcg64-own _ (words .words-of-pcg64 .ensures))
 
 pub whole-words-spec : {M : Type 1} → statement M
 whole-words-spec =

@@ -27,9 +27,7 @@ cast-put4 : tie.Need-cast-put4 Inv-loop μ-loop
 cast-put4 c = search needs
 
 put4-requires : tie.Need-put4-requires Inv-loop μ-loop
-put4-requires c κs =
-    let h = c .before .before .before .before .before .loop .inv in
-    omega (arith, h .within, h .size)
+put4-requires c κs = omega arith
 
 add-i : tie.Need-add-i Inv-loop μ-loop
 add-i c = omega arith
@@ -39,8 +37,11 @@ loop-less c = omega arith
 
 loop-again : tie.Need-loop-again Inv-loop μ-loop
 loop-again c =
-    let h = c .before .before .before .before .before .before .before .before .loop .inv in
-    rw (c .before .before .put4 .ensures, c .before .before .before .before .before .before .next-u32 .ensures) (filling-more h _ _ refl refl (omega arith) (c .before .before .before .before .before .before .before .loop-test .taken))
+    let put = c .before .before in
+    let drawn = put .before .before .before .before in
+    let turn = drawn .before in
+    rw (put .put4 .ensures, drawn .next-u32 .ensures)
+    (filling-more (turn .before .loop .inv) _ _ refl refl (omega arith) (turn .loop-test .taken))
 
 same-length : tie.Need-same-length Inv-loop μ-loop
 same-length c = c .before .loop .inv .size

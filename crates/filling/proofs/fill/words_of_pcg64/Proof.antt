@@ -43,10 +43,13 @@ loop-less c = omega arith
 
 loop-again : tie.Need-loop-again Inv-loop μ-loop
 loop-again c =
-    let put = c .before .before .before .before .before .before in
-    let drawn = put .before .before .before .before .before in
-    rw (c .before .before .put82 .ensures, put .put8 .ensures, put .before .before .before .next-u642 .ensures, drawn .next-u64 .ensures)
-    (filling-two (drawn .before .before .loop .inv) _ _ _ refl refl refl (omega arith) (drawn .before .loop-test .taken))
+    let put = c .before .before in
+    let first-put = put .before .before .before .before in
+    let second = first-put .before .before .before in
+    let first = second .before .before in
+    let turn = first .before in
+    rw (put .put82 .ensures, first-put .put8 .ensures, second .next-u642 .ensures, first .next-u64 .ensures)
+    (filling-two (turn .before .loop .inv) _ _ _ refl refl refl (omega arith) (turn .loop-test .taken))
 
 sub-if1 : tie.Need-sub-if1 Inv-loop μ-loop
 sub-if1 c = c .before .loop .inv .within
@@ -62,9 +65,11 @@ same-length c = search needs
 
 returns : tie.Need-returns Inv-loop μ-loop
 returns c =
-    let drawn = c .before .before .before .before .before in
-    let one = filling-more (drawn .before .before .before .loop .inv) _ _ refl refl (omega arith) (drawn .before .if1 .taken) in
-    rw (c .before .before .before .put83 .ensures, drawn .next-u643 .ensures) (filling-end one (omega arith))
+    let put = c .before .before .before in
+    let drawn = put .before .before in
+    let test = drawn .before in
+    let one = filling-more (test .before .before .loop .inv) _ _ refl refl (omega arith) (test .if1 .taken) in
+    rw (put .put83 .ensures, drawn .next-u643 .ensures) (filling-end one (omega arith))
 
 same-length-2 : tie.Need-same-length-2 Inv-loop μ-loop
 same-length-2 c = c .before .before .loop .inv .size

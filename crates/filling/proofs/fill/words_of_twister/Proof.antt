@@ -29,9 +29,7 @@ cast-put4 : tie.Need-cast-put4 Inv-loop μ-loop
 cast-put4 c = search needs
 
 put4-requires : tie.Need-put4-requires Inv-loop μ-loop
-put4-requires c κs =
-    let h = c .before .before .before .before .before .loop .inv in
-    omega (arith, h .within, h .size)
+put4-requires c κs = omega arith
 
 add-i : tie.Need-add-i Inv-loop μ-loop
 add-i c = omega arith
@@ -41,10 +39,12 @@ loop-less c = omega arith
 
 loop-again : tie.Need-loop-again Inv-loop μ-loop
 loop-again c =
-    let test = c .before .before .before .before .before .before .before in
-    let drawn = c .before .before .before .before .before .rand-in .ensures in
-    rw (c .before .before .put4 .ensures)
-    (filling-more (test .before .loop .inv) _ _ (ap (λ (d : Drawn32). d .word) drawn) (ap (λ (d : Drawn32). d .next) drawn) (omega arith) (test .loop-test .taken))
+    let put = c .before .before in
+    let drawn = put .before .before .before in
+    let turn = drawn .before .before in
+    let word = ap (λ (d : Drawn32). d .word) (drawn .rand-in .ensures) in
+    let next = ap (λ (d : Drawn32). d .next) (drawn .rand-in .ensures) in
+    rw (put .put4 .ensures) (filling-more (turn .before .loop .inv) _ _ word next (omega arith) (turn .loop-test .taken))
 
 same-length : tie.Need-same-length Inv-loop μ-loop
 same-length c = c .before .loop .inv .size

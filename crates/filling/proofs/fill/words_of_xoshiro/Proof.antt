@@ -24,9 +24,7 @@ next-u64-requires : tie.Need-next-u64-requires Inv-loop μ-loop
 next-u64-requires c κs = search needs
 
 put8-requires : tie.Need-put8-requires Inv-loop μ-loop
-put8-requires c κs =
-    let h = c .before .before .before .before .loop .inv in
-    omega (arith, h .within, h .size)
+put8-requires c κs = omega arith
 
 add-i : tie.Need-add-i Inv-loop μ-loop
 add-i c = omega arith
@@ -36,8 +34,11 @@ loop-less c = omega arith
 
 loop-again : tie.Need-loop-again Inv-loop μ-loop
 loop-again c =
-    let h = c .before .before .before .before .before .before .before .loop .inv in
-    rw (c .before .before .put8 .ensures, c .before .before .before .before .before .next-u64 .ensures) (filling-more h _ _ refl refl (omega arith) (c .before .before .before .before .before .before .loop-test .taken))
+    let put = c .before .before in
+    let drawn = put .before .before .before in
+    let turn = drawn .before in
+    rw (put .put8 .ensures, drawn .next-u64 .ensures)
+    (filling-more (turn .before .loop .inv) _ _ refl refl (omega arith) (turn .loop-test .taken))
 
 same-length : tie.Need-same-length Inv-loop μ-loop
 same-length c = c .before .loop .inv .size

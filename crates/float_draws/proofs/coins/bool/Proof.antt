@@ -14,8 +14,9 @@ with-table-requires c κs = search needs
 
 returns : tie.Need-returns
 returns c =
-    let drawn = rw (c .before .before .before .before .before .engine-of .ensures) at (c .before .before .before .bool-in .ensures) in
-    rw (c .with-table .ensures) drawn
+    let drawn = c .before .before .before in
+    let told = rw (drawn .before .before .engine-of .ensures) at (drawn .bool-in .ensures) in
+    rw (c .with-table .ensures) told
 
 pub bool-spec : {M : Type 1} → statement M
 bool-spec = tie.close (tie.spec engine-of-requires bool-in-requires with-table-requires returns)

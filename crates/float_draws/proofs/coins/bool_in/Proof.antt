@@ -1,4 +1,4 @@
--- `bool_in` meets its contract.
+-- `bool_in` meets its contract: p is asked first; taken, the coin of the drawn word, and refused, nothing drawn.
 use mathlib.Core.Path.{_∙_, sym}
 use borrow.Author.Needs.{needs}
 use Rattle.float_draws.specs.Laws.{flip-taken, flip-refused}
@@ -19,9 +19,11 @@ chance-requires c κs = search needs
 
 returns : tie.Need-returns
 returns c =
-    let asked = c .before .before .before .before .before in
-    rw (c .chance .ensures, c .before .before .before .before .steps .ensures)
-    (flip-taken _ _ (sym (asked .before .is-chance .ensures) ∙ asked .if1 .taken) (c .before .before .next-u64 .result) _ (c .before .before .next-u64 .ensures))
+    let drawn = c .before .before in
+    let counted = drawn .before .before in
+    let test = counted .before in
+    let taken = sym (test .before .is-chance .ensures) ∙ test .if1 .taken in
+    rw (c .chance .ensures, counted .steps .ensures) (flip-taken _ _ taken (drawn .next-u64 .result) _ (drawn .next-u64 .ensures))
 
 returns-2 : tie.Need-returns-2
 returns-2 c = flip-refused _ _ (sym (c .before .is-chance .ensures) ∙ c .if1 .left)

@@ -1,4 +1,4 @@
--- `steps` meets its contract.
+-- `steps` meets its contract: a 64-bit word is one word of a kind whose own have 8 bytes, and two of the others.
 use mathlib.Core.Path.{_∙_, sym}
 use borrow.Author.Needs.{needs}
 use Rattle.float_draws.specs.Laws.{steps-wide, steps-narrow}

@@ -1,4 +1,4 @@
--- `uniform_in` meets its contract.
+-- `uniform_in` meets its contract: the interval is asked first; taken, the number of the drawn word, and refused, nothing drawn.
 use mathlib.Core.Path.{_∙_, sym}
 use borrow.Author.Needs.{needs}
 use Rattle.float_draws.specs.Laws.{spread-taken, spread-refused}
@@ -16,8 +16,10 @@ number-in-requires c κs = search needs
 
 returns : tie.Need-returns
 returns c =
-    let asked = c .before .before .before .before in
-    rw (c .number-in .ensures) (spread-taken _ _ (sym (asked .before .interval-refusal .ensures) ∙ asked .if1 .taken) (c .before .before .next-u64 .result) _ (c .before .before .next-u64 .ensures))
+    let drawn = c .before .before in
+    let test = drawn .before .before in
+    let none = sym (test .before .interval-refusal .ensures) ∙ test .if1 .taken in
+    rw (c .number-in .ensures) (spread-taken _ _ none (drawn .next-u64 .result) _ (drawn .next-u64 .ensures))
 
 returns-2 : tie.Need-returns-2
 returns-2 c =

@@ -1,4 +1,4 @@
--- `chance` meets its contract.
+-- `chance` meets its contract: the code's test is the definition's, and so is the comparison with p.
 use mathlib.Core.Path.{sym, _∙_}
 use borrow.Author.Needs.{needs}
 use Rattle.floats.proofs.chances.chance.Statement.{statement}

@@ -1,4 +1,4 @@
--- `chance_refusal` meets its contract.
+-- `chance_refusal` meets its contract: the code's test is the definition's.
 use mathlib.Core.Path.{sym, _∙_}
 use borrow.Author.Needs.{needs}
 use Rattle.floats.proofs.chances.chance_refusal.Statement.{statement}

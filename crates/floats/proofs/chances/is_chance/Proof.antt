@@ -1,4 +1,4 @@
--- `is_chance` meets its contract.
+-- `is_chance` meets its contract: the two comparisons say what the whole numbers do.
 use lib.Ieee.{ofBits}
 use Rattle.floats.specs.ChanceLaws.{is-chance-tests}
 use Rattle.floats.proofs.chances.is_chance.Statement.{statement}

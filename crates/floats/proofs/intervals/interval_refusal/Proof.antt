@@ -8,11 +8,15 @@ use Rattle.floats.specs.IntervalLaws.{ends-refused, order-refused, width
 use Rattle.floats.proofs.intervals.interval_refusal.Statement.{statement}
 use Rattle.floats.proofs.intervals.interval_refusal.Tie as tie
 
--- what is known past the first test, and past the second
+-- what is known past the first test: the test's answer, by the call's promise; and likewise past the second, below
 finite-ends : (c : tie.Else1) → endsAreFinite (c .before .before .args .i) ≡ true
 finite-ends c = sym (c .before .ends-are-finite .ensures) ∙ not-false _ (c .if1 .left)
 
-in-order : (c : tie.Else2) → isOutOfOrder (c .before .before .before .before .args .i) ≡ false
+-- the place past the first test, from that past the second
+abbrev passed : tie.Else2 → tie.Else1
+passed c = c .before .before
+
+in-order : (c : tie.Else2) → isOutOfOrder (passed c .before .before .args .i) ≡ false
 in-order c = sym (c .before .is-out-of-order .ensures) ∙ c .if2 .left
 
 ends-are-finite-requires : tie.Need-ends-are-finite-requires
@@ -25,20 +29,26 @@ is-out-of-order-requires : tie.Need-is-out-of-order-requires
 is-out-of-order-requires c κs = search needs
 
 returns-2 : tie.Need-returns-2
-returns-2 c = sym (order-refused _ (finite-ends (c .before .before)) (sym (c .before .is-out-of-order .ensures) ∙ c .if2 .taken))
+returns-2 c =
+    let asked = c .before in
+    sym (order-refused _ (finite-ends (asked .before)) (sym (asked .is-out-of-order .ensures) ∙ c .if2 .taken))
 
 is-finite-requires : tie.Need-is-finite-requires
 is-finite-requires c κs = search needs
 
 returns-3 : tie.Need-returns-3
 returns-3 c =
-    let ordered = c .before .before .before in
-    sym (accepted _ (finite-ends (ordered .before .before)) (in-order ordered) (sym (c .before .is-finite .ensures) ∙ c .if3 .taken))
+    let asked = c .before in
+    let ordered = asked .before .before in
+    let width = sym (asked .is-finite .ensures) ∙ c .if3 .taken in
+    sym (accepted _ (finite-ends (passed ordered)) (in-order ordered) width)
 
 returns-4 : tie.Need-returns-4
 returns-4 c =
-    let ordered = c .before .before .before in
-    sym (width-refused _ (finite-ends (ordered .before .before)) (in-order ordered) (sym (c .before .is-finite .ensures) ∙ c .if3 .left))
+    let asked = c .before in
+    let ordered = asked .before .before in
+    let width = sym (asked .is-finite .ensures) ∙ c .if3 .left in
+    sym (width-refused _ (finite-ends (passed ordered)) (in-order ordered) width)
 
 pub interval-refusal-spec : {M : Type 1} → statement M
 interval-refusal-spec =

@@ -1,4 +1,4 @@
--- `uniform_of` meets its contract.
+-- `uniform_of` meets its contract: the number where the refusal is 0, and otherwise the refusal.
 use mathlib.Core.Path.{sym, _∙_}
 use borrow.Author.Needs.{needs}
 use Rattle.floats.specs.IntervalLaws.{answered-refused}

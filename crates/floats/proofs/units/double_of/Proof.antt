@@ -2,7 +2,7 @@
 use native.Mathlib.Omega.{arith}
 use lib.Dec.{lit≤}
 use lib.Ieee.{binary64, ofBits}
-use Rattle.floats.specs.DyadicLaws.{cast-exact, exact-draw}
+use Rattle.floats.specs.ExactDraw.{cast-exact, exact-draw}
 use Rattle.floats.proofs.units.double_of.Statement.{statement}
 use Rattle.floats.proofs.units.double_of.Tie as tie
 

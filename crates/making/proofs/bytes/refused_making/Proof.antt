@@ -1,4 +1,4 @@
--- `refused_making` meets its contract.
+-- `refused_making` meets its contract: the zeros beside the number.
 use borrow.Author.Needs.{needs}
 use Rattle.making.proofs.bytes.refused_making.Statement.{statement}
 use Rattle.making.proofs.bytes.refused_making.Tie as tie

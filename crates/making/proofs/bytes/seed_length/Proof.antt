@@ -1,4 +1,4 @@
--- `seed_length` meets its contract.
+-- `seed_length` meets its contract: the code's test is the definition's.
 use borrow.Author.Tests.{eq-eqb, ne-eqb}
 use Rattle.making.proofs.bytes.seed_length.Statement.{statement}
 use Rattle.making.proofs.bytes.seed_length.Tie as tie

@@ -1,4 +1,4 @@
--- `from_u64_seed` meets its contract.
+-- `from_u64_seed` meets its contract: the two calls, one after the other.
 use borrow.Author.Needs.{needs}
 use Rattle.making.proofs.own_calls.from_u64_seed.Statement.{statement}
 use Rattle.making.proofs.own_calls.from_u64_seed.Tie as tie

@@ -1,4 +1,4 @@
--- `new_pcg64_with_seed` meets its contract.
+-- `new_pcg64_with_seed` meets its contract: the two calls, one after the other.
 use borrow.Author.Needs.{needs}
 use Rattle.making.proofs.own_calls.new_pcg64_with_seed.Statement.{statement}
 use Rattle.making.proofs.own_calls.new_pcg64_with_seed.Tie as tie

@@ -1,4 +1,4 @@
--- `zeros` meets its contract.
+-- `zeros` meets its contract: the two calls, one after the other.
 use borrow.Author.Needs.{needs}
 use Rattle.making.proofs.own_calls.zeros.Statement.{statement}
 use Rattle.making.proofs.own_calls.zeros.Tie as tie

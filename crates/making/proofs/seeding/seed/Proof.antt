@@ -1,4 +1,4 @@
--- `seed` meets its contract.
+-- `seed` meets its contract: what is seeded over the lent table is the generator.
 use borrow.Author.Needs.{needs}
 use Rattle.making.proofs.seeding.seed.Statement.{statement}
 use Rattle.making.proofs.seeding.seed.Tie as tie
@@ -14,7 +14,8 @@ with-table-requires c κs = search needs
 
 returns : tie.Need-returns
 returns c =
-    rw (c .with-table .ensures) (rw (c .before .before .before .before .engine-of .ensures) at (c .before .before .seed-in .ensures))
+    let seeded = c .before .before in
+    rw (c .with-table .ensures) (rw (seeded .before .before .engine-of .ensures) at (seeded .seed-in .ensures))
 
 pub seed-spec : {M : Type 1} → statement M
 seed-spec = tie.close (tie.spec engine-of-requires seed-in-requires with-table-requires returns)

@@ -1,4 +1,4 @@
--- `seed_in` meets its contract, kind by kind.
+-- `seed_in` meets its contract, kind by kind: the kind's own seeding, beside what the kind does not use.
 use mathlib.Core.Path.{_≡_, ap}
 use native.Mathlib.Omega.{arith}
 use Prim.Native.Nat.{ℕ, _+_, _*_, _^_}
@@ -55,24 +55,27 @@ engine-with-requires-4 c κs = search needs
 returns : tie.Need-returns
 unfolding seededTo
 returns c =
-    rw (c .before .before .enum-told .given .1, c .engine-with .ensures, c .before .from-u64-seed .ensures)
+    let seeded = c .before in
+    rw (seeded .before .enum-told .given .1, c .engine-with .ensures, seeded .from-u64-seed .ensures)
 
 returns-2 : tie.Need-returns-2
 unfolding seededTo
 returns-2 c =
-    rw (c .before .before .before .enum-told2 .given .1, c .engine-with2 .ensures)
-    (ap (λ (t : twister-type.MersenneTwister). gen MersenneTwister t) (c .before .seed-in .ensures))
+    let seeded = c .before in
+    rw (seeded .before .before .enum-told2 .given .1, c .engine-with2 .ensures)
+    (ap (λ (t : twister-type.MersenneTwister). gen MersenneTwister t) (seeded .seed-in .ensures))
 
 returns-3 : tie.Need-returns-3
 unfolding seededTo
 returns-3 c =
-    rw (c .before .before .enum-told3 .given .1, c .engine-with3 .ensures, c .before .from-u64-seed2 .ensures)
+    let seeded = c .before in
+    rw (seeded .before .enum-told3 .given .1, c .engine-with3 .ensures, seeded .from-u64-seed2 .ensures)
 
 returns-4 : tie.Need-returns-4
 unfolding seededTo
 returns-4 c =
-    rw (c .before .before .enum-told4 .given .1, c .engine-with4 .ensures, c .before .from-u128-seed .ensures)
-    (widened _ _)
+    let seeded = c .before in
+    rw (seeded .before .enum-told4 .given .1, c .engine-with4 .ensures, seeded .from-u128-seed .ensures) (widened _ _)
 
 pub seed-in-spec : {M : Type 1} → statement M
 seed-in-spec =

@@ -1,4 +1,4 @@
--- `MersenneTwister::from_seed` meets its contract.
+-- `MersenneTwister::from_seed` meets its contract: the seed number is what the bytes come to.
 use mathlib.Core.Path.{_∙_}
 use borrow.Author.Needs.{needs}
 use Rattle.mersenne_twister.proofs.MersenneTwister.from_seed.Statement.{statement}

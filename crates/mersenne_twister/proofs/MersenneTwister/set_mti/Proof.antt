@@ -1,4 +1,4 @@
--- `MersenneTwister::set_mti` meets its contract.
+-- `MersenneTwister::set_mti` meets its contract: the position is the one that is stored.
 use borrow.Author.Needs.{needs}
 use Rattle.mersenne_twister.proofs.MersenneTwister.set_mti.Statement.{statement}
 use Rattle.mersenne_twister.proofs.MersenneTwister.set_mti.Tie as tie

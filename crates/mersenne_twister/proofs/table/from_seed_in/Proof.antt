@@ -1,4 +1,4 @@
--- `from_seed_in` meets its contract.
+-- `from_seed_in` meets its contract: the seed number is what the bytes come to.
 use mathlib.Core.Path.{_∙_}
 use borrow.Author.Needs.{needs}
 use Rattle.mersenne_twister.proofs.table.from_seed_in.Statement.{statement}

@@ -29,10 +29,11 @@ cast-t9 c = search needs
 
 returns : tie.Need-returns
 returns c =
-    let first = c .before .before .before .before .rand-in in
-    let second = c .before .before .rand-in2 in
-    drawn64-is _ (stepped (first .result) (first .last .0)) (stepped (second .result) (second .last .0)) _ (first .ensures) (second .ensures)
-    (joined (first .result .word) (second .result .word) (omega arith) (omega arith))
+    let later = c .before .before in
+    let high = later .before .before .rand-in in
+    let low = later .rand-in2 in
+    drawn64-is _ (stepped (high .result) (high .last .0)) (stepped (low .result) (low .last .0)) _ (high .ensures) (low .ensures)
+    (joined (high .result .word) (low .result .word) (omega arith) (omega arith))
 
 pub next-u64-in-spec : {M : Type 1} → statement M
 next-u64-in-spec = tie.close (tie.spec rand-in-requires rand-in-requires-2 cast-t7 cast-t9 returns)

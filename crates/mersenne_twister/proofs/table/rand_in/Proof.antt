@@ -1,4 +1,4 @@
--- `rand_in` meets its contract. `at-join` says once what holds where the arms of the branch meet.
+-- `rand_in` meets its contract: where the arms of the branch meet, the position is inside the table, and the draw is of the entry there.
 use mathlib.Core.Logic.{⊎-elim}
 use mathlib.Core.Path.{_≡_, _∙_, ap, ap₂, sym}
 use Prim.Native.Nat.{_<_}
@@ -11,16 +11,19 @@ use Rattle.mersenne_twister.specs.DrawLaws.{in-low, in-high}
 use Rattle.mersenne_twister.proofs.table.rand_in.Statement.{statement}
 use Rattle.mersenne_twister.proofs.table.rand_in.Tie as tie
 
-at-join : (c : tie.Joined1) → (c .if1 .at < 624) × (drawnIn (now (c .before .args .mt)) (c .before .args .mti) ≡ drawnAt (c .if1 .mt) (c .if1 .at))
+-- by the first arm the table is twisted and the position 0; by the second both are as they came
+at-join : (c : tie.Joined1)
+    → (c .if1 .at < 624) × (drawnIn (now (c .before .args .mt)) (c .before .args .mti) ≡ drawnAt (c .if1 .mt) (c .if1 .at))
 at-join c =
     let t = now (c .before .args .mt) in
     let p = c .before .args .mti in
     ⊎-elim
-    (λ w. let zero : c .if1 .at ≡ 0 = w .4 ∙ ap (λ (g : MersenneTwister). g .mti) (w .2 .ensures) in
-    let table : c .if1 .mt ≡ renewed 624 t = w .3 ∙ ap (λ (g : MersenneTwister). g .mt) (w .2 .ensures) in
-    (omega arith, in-high t p (omega (arith, w .0 .taken)) ∙ sym (ap₂ drawnAt table zero)))
-    (λ w. let low : p < 624 = omega (arith, w .0 .left) in
-    (omega (arith, w .2), in-low t p low ∙ sym (ap₂ drawnAt (w .1) (w .2))))
+    (λ twisted. let done = twisted .2 .ensures in
+    let at : c .if1 .at ≡ 0 = twisted .4 ∙ ap (λ (g : MersenneTwister). g .mti) done in
+    let table : c .if1 .mt ≡ renewed 624 t = twisted .3 ∙ ap (λ (g : MersenneTwister). g .mt) done in
+    (omega arith, in-high t p (omega (arith, twisted .0 .taken)) ∙ sym (ap₂ drawnAt table at)))
+    (λ kept. let low : p < 624 = omega (arith, kept .0 .left) in
+    (omega (arith, kept .2), in-low t p low ∙ sym (ap₂ drawnAt (kept .1) (kept .2))))
     (c .if1 .came)
 
 twist-in-requires : tie.Need-twist-in-requires

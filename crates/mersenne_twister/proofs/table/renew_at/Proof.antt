@@ -1,4 +1,4 @@
--- `renew_at` meets its contract.
+-- `renew_at` meets its contract: one store of what follows from the three entries.
 use borrow.Author.Needs.{needs}
 use Rattle.mersenne_twister.proofs.table.renew_at.Statement.{statement}
 use Rattle.mersenne_twister.proofs.table.renew_at.Tie as tie

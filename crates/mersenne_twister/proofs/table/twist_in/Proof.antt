@@ -1,4 +1,4 @@
--- `twist_in` meets its contract.
+-- `twist_in` meets its contract: the whole table is renewed, and the position is 0.
 use mathlib.Core.List.{List}
 use mathlib.Core.Path.{ap}
 use Prim.Native.Nat.{ℕ}

@@ -1,4 +1,4 @@
--- `same` meets its contract.
+-- `same` meets its contract: what is asked of the engines and tables is asked of the generators.
 use borrow.Author.Needs.{needs}
 use Rattle.parts.proofs.equality.same.Statement.{statement}
 use Rattle.parts.proofs.equality.same.Tie as tie
@@ -13,7 +13,10 @@ same-in-requires : tie.Need-same-in-requires
 same-in-requires c κs = search needs
 
 returns : tie.Need-returns
-returns c = rw (c .before .before .before .engine-of2 .ensures, c .before .before .before .before .before .before .engine-of .ensures) at (c .same-in .ensures)
+returns c =
+    let second = c .before .before .before in
+    let first = second .before .before .before in
+    rw (second .engine-of2 .ensures, first .engine-of .ensures) at (c .same-in .ensures)
 
 pub same-spec : {M : Type 1} → statement M
 same-spec = tie.close (tie.spec engine-of-requires engine-of-requires-2 same-in-requires returns)

@@ -1,4 +1,4 @@
--- `same_small` meets its contract.
+-- `same_small` meets its contract: the first word that differs decides, and four that do not make the whole.
 use mathlib.Core.Path.{ap}
 use Rattle.parts.specs.Decides.{decides-yes, decides-no}
 use Rattle.parts.specs.declared.read_out.Small.{Small}

@@ -12,8 +12,12 @@ use Rattle.parts.specs.Decides.{decides-yes, decides-no}
 use Rattle.parts.proofs.equality.same_words.Statement.{statement}
 use Rattle.parts.proofs.equality.same_words.Tie as tie
 
+-- the lists agree at place j
+abbrev Agree : (a b : List ℕ) → ℕ → Type 0
+Agree a b j = getD a j 0 ≡ getD b j 0
+
 abbrev Inv-loop : tie.InvT-loop
-Inv-loop a b count other i₀ i = (count ≡ length a) × (i ≤ count) × ((j : ℕ) → j < i → getD a j 0 ≡ getD b j 0)
+Inv-loop a b count other i₀ i = (count ≡ length a) × (i ≤ count) × ((j : ℕ) → j < i → Agree a b j)
 
 abbrev μ-loop : tie.MeasureT-loop
 μ-loop a b count other i₀ i = count - i
@@ -37,7 +41,9 @@ shared-slice-read-if2-2 : tie.Need-shared-slice-read-if2-2 Inv-loop μ-loop
 shared-slice-read-if2-2 c = search needs
 
 returns-2 : tie.Need-returns-2 Inv-loop μ-loop
-returns-2 c = decides-no (λ e. c .if2 .taken (ap (λ (l : List ℕ). getD l (c .before .before .before .before .loop .i) 0) e))
+returns-2 c =
+    let i = c .before .before .before .before .loop .i in
+    decides-no (λ e. c .if2 .taken (ap (λ (l : List ℕ). getD l i 0) e))
 
 add-i : tie.Need-add-i Inv-loop μ-loop
 add-i c = search needs
@@ -47,9 +53,10 @@ loop-less c = search needs
 
 loop-again : tie.Need-loop-again Inv-loop μ-loop
 loop-again c =
-    let loop = c .before .before .before .before .loop in
-    let lists = c .before .before .before .before .before .before .args in
-    (loop .inv .0, omega arith, below-more (λ (j : ℕ). getD (now (lists .a)) j 0 ≡ getD (now (lists .b)) j 0) (loop .i) (loop .inv .2) (c .if2 .left))
+    let turn = c .before .before .before .before in
+    let so-far = turn .loop .inv in
+    let lists = turn .before .before .args in
+    (so-far .0, omega arith, below-more (Agree (now (lists .a)) (now (lists .b))) (turn .loop .i) (so-far .2) (c .if2 .left))
 
 returns-3 : tie.Need-returns-3 Inv-loop μ-loop
 returns-3 c =

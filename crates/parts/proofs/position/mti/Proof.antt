@@ -1,4 +1,4 @@
--- `mti` meets its contract.
+-- `mti` meets its contract: the engine's position is the generator's.
 use borrow.Author.Needs.{needs}
 use Rattle.parts.proofs.position.mti.Statement.{statement}
 use Rattle.parts.proofs.position.mti.Tie as tie

@@ -1,4 +1,4 @@
--- `set_mti` meets its contract.
+-- `set_mti` meets its contract: what is set in the engine is set in the generator.
 use borrow.Author.Needs.{needs}
 use Rattle.parts.proofs.position.set_mti.Statement.{statement}
 use Rattle.parts.proofs.position.set_mti.Tie as tie
@@ -13,7 +13,9 @@ with-table-requires : tie.Need-with-table-requires
 with-table-requires c κs = search needs
 
 returns : tie.Need-returns
-returns c = rw (c .with-table .ensures, c .before .before .set-mti-in .ensures, c .before .before .before .engine-of .ensures)
+returns c =
+    let set = c .before .before in
+    rw (c .with-table .ensures, set .set-mti-in .ensures, set .before .engine-of .ensures)
 
 pub set-mti-spec : {M : Type 1} → statement M
 set-mti-spec =

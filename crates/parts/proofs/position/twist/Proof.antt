@@ -1,4 +1,4 @@
--- `twist` meets its contract.
+-- `twist` meets its contract: what is twisted over the lent table is the generator.
 use borrow.Author.Needs.{needs}
 use Rattle.parts.proofs.position.twist.Statement.{statement}
 use Rattle.parts.proofs.position.twist.Tie as tie
@@ -14,7 +14,8 @@ with-table-requires c κs = search needs
 
 returns : tie.Need-returns
 returns c =
-    rw (c .with-table .ensures) (rw (c .before .before .before .before .engine-of .ensures) at (c .before .before .twist-in .ensures))
+    let twisted = c .before .before in
+    rw (c .with-table .ensures) (rw (twisted .before .before .engine-of .ensures) at (twisted .twist-in .ensures))
 
 pub twist-spec : {M : Type 1} → statement M
 twist-spec = tie.close (tie.spec engine-of-requires twist-in-requires with-table-requires returns)

@@ -1,4 +1,4 @@
--- `no_split` meets its contract.
+-- `no_split` meets its contract: the zeros beside the parent.
 use borrow.Author.Needs.{needs}
 use Rattle.parts.proofs.splitting.no_split.Statement.{statement}
 use Rattle.parts.proofs.splitting.no_split.Tie as tie

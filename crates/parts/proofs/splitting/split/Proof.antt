@@ -1,4 +1,4 @@
--- `split` meets its contract.
+-- `split` meets its contract: the lent split told apart by its refusal, with the table joined again.
 use mathlib.Core.Path.{_∙_, ap}
 use borrow.Author.Needs.{needs}
 use Rattle.parts.specs.Splitting.{engineSplit}
@@ -17,16 +17,20 @@ with-table-requires c κs = search needs
 
 returns : tie.Need-returns
 returns c =
-    let done = c .before .before .before .before .before in
-    rw (c .with-table .ensures) (split-answered _ (done .split-in .result) (done .split-in .ensures ∙ ap engineSplit (done .before .engine-of .ensures)) (c .before .before .before .if1 .taken))
+    let test = c .before .before .before in
+    let split = test .before .before in
+    let told = split .split-in .ensures ∙ ap engineSplit (split .before .engine-of .ensures) in
+    rw (c .with-table .ensures) (split-answered _ (split .split-in .result) told (test .if1 .taken))
 
 zeros-requires : tie.Need-zeros-requires
 zeros-requires c κs = search needs
 
 returns-2 : tie.Need-returns-2
 returns-2 c =
-    let done = c .before .before .before in
-    rw (c .zeros .ensures) (split-none _ (done .split-in .result) (done .split-in .ensures ∙ ap engineSplit (done .before .engine-of .ensures)) (c .before .if1 .left))
+    let test = c .before in
+    let split = test .before .before in
+    let told = split .split-in .ensures ∙ ap engineSplit (split .before .engine-of .ensures) in
+    rw (c .zeros .ensures) (split-none _ (split .split-in .result) told (test .if1 .left))
 
 pub split-spec : {M : Type 1} → statement M
 split-spec =

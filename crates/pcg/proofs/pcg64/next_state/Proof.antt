@@ -1,4 +1,4 @@
--- `next_state` meets its contract.
+-- `next_state` meets its contract: the product is wrapped before the sum is, which the sum does not see.
 use mathlib.Core.Path.{_∙_}
 use native.Mathlib.Nat.{mod-add-mod}
 use borrow.Author.Needs.{needs}

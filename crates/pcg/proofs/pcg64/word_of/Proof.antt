@@ -1,4 +1,4 @@
--- `word_of` meets its contract.
+-- `word_of` meets its contract: the two words and the top six bits are those of the number that they hold.
 use mathlib.Core.Path.{_∙_, sym}
 use native.Mathlib.Omega.{arith}
 use borrow.Author.Needs.{needs}

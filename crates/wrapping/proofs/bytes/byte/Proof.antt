@@ -1,12 +1,19 @@
--- `byte` meets its contract.
+-- `byte` meets its contract: an entry of a list of bytes is below 256, and past the end there is 0.
 use native.Mathlib.Omega.{arith}
-use mathlib.Core.Path.{refl, sym}
-use Prim.Native.Nat.{_+_, _≤_}
+use mathlib.Core.Path.{_≡_, refl, sym}
+use Prim.Native.Nat.{ℕ, _+_, _≤_}
+use mathlib.Core.List.{List}
 use denote.Ref.{now}
-use lib.ListN.{length, List·getD-eq-default}
+use lib.ListN.{length, getD, List·getD-eq-default}
 use borrow.Author.Needs.{needs}
+use Rattle.wrapping.specs.Bytes.{LittleIs}
+use Rattle.wrapping.specs.BytesLaws.{one-byte}
 use Rattle.wrapping.proofs.bytes.byte.Statement.{statement}
 use Rattle.wrapping.proofs.bytes.byte.Tie as tie
+
+-- what stands past the end
+past : (s : List ℕ) (i : ℕ) → length s ≤ i → LittleIs 1 s i 0
+past s i h = one-byte s i (sym (List·getD-eq-default s 0 h)) (omega arith)
 
 sub-if2 : tie.Need-sub-if2
 sub-if2 c = search needs
@@ -25,17 +32,13 @@ cast-result c =
 returns : tie.Need-returns
 returns c =
     let a = c .before .before .before .args in
-    (refl, omega (arith, c .shared-slice-known .given (a .at + a .k)))
+    one-byte _ (a .at + a .k) refl (omega (arith, c .shared-slice-known .given (a .at + a .k)))
 
 returns-2 : tie.Need-returns-2
-returns-2 c =
-    let past : length (now (c .before .before .args .s)) ≤ c .before .before .args .at + c .before .before .args .k = omega arith in
-    (sym (List·getD-eq-default (now (c .before .before .args .s)) 0 past), search needs)
+returns-2 c = past _ _ (omega arith)
 
 returns-3 : tie.Need-returns-3
-returns-3 c =
-    let past : length (now (c .before .args .s)) ≤ c .before .args .at + c .before .args .k = omega arith in
-    (sym (List·getD-eq-default (now (c .before .args .s)) 0 past), search needs)
+returns-3 c = past _ _ (omega arith)
 
 pub byte-spec : {M : Type 1} → statement M
 byte-spec =

@@ -1,15 +1,16 @@
--- `le_u64` meets its contract.
+-- `le_u64` meets its contract: four bytes, and the four after them above, are a word of 64 bits.
+use native.Mathlib.Nat.{add-zero}
 use native.Mathlib.Omega.{arith}
 use borrow.Author.Needs.{needs}
-use Rattle.wrapping.specs.Bytes.{little}
+use Rattle.wrapping.specs.BytesLaws.{twice-as-many}
 use Rattle.wrapping.proofs.bytes.le_u64.Statement.{statement}
 use Rattle.wrapping.proofs.bytes.le_u64.Tie as tie
 
-byte-requires : tie.Need-byte-requires
-byte-requires c κs = search needs
+four-bytes-requires : tie.Need-four-bytes-requires
+four-bytes-requires c κs = search needs
 
-byte-requires-2 : tie.Need-byte-requires-2
-byte-requires-2 c κs = search needs
+four-bytes-requires-2 : tie.Need-four-bytes-requires-2
+four-bytes-requires-2 c κs = search needs
 
 mul-result : tie.Need-mul-result
 mul-result c = search needs
@@ -17,90 +18,9 @@ mul-result c = search needs
 add-result : tie.Need-add-result
 add-result c = search needs
 
-byte-requires-3 : tie.Need-byte-requires-3
-byte-requires-3 c κs = search needs
-
-mul-result-2 : tie.Need-mul-result-2
-mul-result-2 c = search needs
-
-add-result-2 : tie.Need-add-result-2
-add-result-2 c = search needs
-
-byte-requires-4 : tie.Need-byte-requires-4
-byte-requires-4 c κs = search needs
-
-mul-result-3 : tie.Need-mul-result-3
-mul-result-3 c = search needs
-
-add-result-3 : tie.Need-add-result-3
-add-result-3 c = search needs
-
-byte-requires-5 : tie.Need-byte-requires-5
-byte-requires-5 c κs = search needs
-
-mul-result-4 : tie.Need-mul-result-4
-mul-result-4 c = search needs
-
-add-result-4 : tie.Need-add-result-4
-add-result-4 c = search needs
-
-byte-requires-6 : tie.Need-byte-requires-6
-byte-requires-6 c κs = search needs
-
-mul-result-5 : tie.Need-mul-result-5
-mul-result-5 c = search needs
-
-add-result-5 : tie.Need-add-result-5
-add-result-5 c = search needs
-
-byte-requires-7 : tie.Need-byte-requires-7
-byte-requires-7 c κs = search needs
-
-mul-result-6 : tie.Need-mul-result-6
-mul-result-6 c = search needs
-
-add-result-6 : tie.Need-add-result-6
-add-result-6 c = search needs
-
-byte-requires-8 : tie.Need-byte-requires-8
-byte-requires-8 c κs = search needs
-
-mul-result-7 : tie.Need-mul-result-7
-mul-result-7 c = search needs
-
-add-result-7 : tie.Need-add-result-7
-add-result-7 c = search needs
-
 returns : tie.Need-returns
-unfolding little
-returns c =
-    rw (c .byte8 .ensures .0, c .before .byte7 .ensures .0, c .before .before .byte6 .ensures .0, c .before .before .before .byte5 .ensures .0, c .before .before .before .before .byte4 .ensures .0, c .before .before .before .before .before .byte3 .ensures .0, c .before .before .before .before .before .before .byte2 .ensures .0, c .before .before .before .before .before .before .before .byte .ensures .0)
-    (omega arith)
+returns c = rw add-zero at (twice-as-many 4 (c .before .four-bytes .ensures) (c .four-bytes2 .ensures) (omega arith) .value)
 
 pub le-u64-spec : {M : Type 1} → statement M
 le-u64-spec =
-    tie.close
-    (tie.spec
-    byte-requires
-    byte-requires-2
-    mul-result
-    add-result
-    byte-requires-3
-    mul-result-2
-    add-result-2
-    byte-requires-4
-    mul-result-3
-    add-result-3
-    byte-requires-5
-    mul-result-4
-    add-result-4
-    byte-requires-6
-    mul-result-5
-    add-result-5
-    byte-requires-7
-    mul-result-6
-    add-result-6
-    byte-requires-8
-    mul-result-7
-    add-result-7
-    returns)
+    tie.close (tie.spec four-bytes-requires four-bytes-requires-2 mul-result add-result returns)

@@ -1,4 +1,4 @@
--- `mul_u32` meets its contract.
+-- `mul_u32` meets its contract: a product of two words of 32 bits fits 64.
 use native.Mathlib.Omega.{arith}
 use borrow.Author.Needs.{needs}
 use Rattle.wrapping.specs.Columns.{halves}

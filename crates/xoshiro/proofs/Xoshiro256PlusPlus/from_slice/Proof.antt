@@ -1,4 +1,4 @@
--- `from_slice` meets its contract.
+-- `from_slice` meets its contract: the seed number is what the bytes fold to.
 use borrow.Author.Needs.{needs}
 use Rattle.xoshiro.proofs.Xoshiro256PlusPlus.from_slice.Statement.{statement}
 use Rattle.xoshiro.proofs.Xoshiro256PlusPlus.from_slice.Tie as tie

@@ -1,4 +1,4 @@
--- `from_u64_seed` meets its contract.
+-- `from_u64_seed` meets its contract: the four words are those of the seed, 0 replaced.
 use borrow.Author.Needs.{needs}
 use Rattle.xoshiro.proofs.Xoshiro256PlusPlus.from_u64_seed.Statement.{statement}
 use Rattle.xoshiro.proofs.Xoshiro256PlusPlus.from_u64_seed.Tie as tie

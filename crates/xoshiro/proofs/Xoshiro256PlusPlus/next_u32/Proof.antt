@@ -1,4 +1,4 @@
--- `next_u32` meets its contract.
+-- `next_u32` meets its contract: a shift by 32 leaves the high half of the word.
 use borrow.Author.Needs.{needs}
 use Rattle.xoshiro.proofs.Xoshiro256PlusPlus.next_u32.Statement.{statement}
 use Rattle.xoshiro.proofs.Xoshiro256PlusPlus.next_u32.Tie as tie

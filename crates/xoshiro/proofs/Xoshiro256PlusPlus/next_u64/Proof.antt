@@ -1,4 +1,4 @@
--- `next_u64` meets its contract.
+-- `next_u64` meets its contract: the old state's word beside the state after it.
 use borrow.Author.Needs.{needs}
 use Rattle.xoshiro.proofs.Xoshiro256PlusPlus.next_u64.Statement.{statement}
 use Rattle.xoshiro.proofs.Xoshiro256PlusPlus.next_u64.Tie as tie

@@ -1,4 +1,4 @@
--- `step` meets its contract.
+-- `step` meets its contract: the same operations in the same order.
 use borrow.Author.Needs.{needs}
 use Rattle.xoshiro.specs.Generator.{stepped}
 use Rattle.xoshiro.proofs.Xoshiro256PlusPlus.step.Statement.{statement}

@@ -1,4 +1,4 @@
--- `word` meets its contract.
+-- `word` meets its contract: the same sums and rotation in the same order.
 use borrow.Author.Needs.{needs}
 use Rattle.xoshiro.specs.Generator.{result}
 use Rattle.xoshiro.proofs.Xoshiro256PlusPlus.word.Statement.{statement}

@@ -1,4 +1,4 @@
--- `turn` meets its contract.
+-- `turn` meets its contract: the code's test of the bit is the definition's.
 use mathlib.Core.Path.{sym, _∙_}
 use borrow.Author.Tests.{eq-eqb, ne-eqb}
 use borrow.Author.Needs.{needs}
@@ -18,14 +18,17 @@ xor-requires c κs = search needs
 returns : tie.Need-returns
 unfolding turned
 returns c =
-    let bit = c .before .before .jump-bit .ensures in
-    rw (eq-eqb _ _ (sym bit ∙ c .before .if1 .taken), c .xor .ensures, c .before .before .before .step .ensures)
+    let test = c .before in
+    let bit = test .before in
+    let one = eq-eqb _ _ (sym (bit .jump-bit .ensures) ∙ test .if1 .taken) in
+    rw (one, c .xor .ensures, bit .before .step .ensures)
 
 returns-2 : tie.Need-returns-2
 unfolding turned
 returns-2 c =
-    let bit = c .before .jump-bit .ensures in
-    rw (ne-eqb _ _ (λ e. c .if1 .left (bit ∙ e)), c .before .before .step .ensures)
+    let bit = c .before in
+    let zero = ne-eqb _ _ (λ e. c .if1 .left (bit .jump-bit .ensures ∙ e)) in
+    rw (zero, bit .before .step .ensures)
 
 pub turn-spec : {M : Type 1} → statement M
 turn-spec = tie.close (tie.spec step-requires jump-bit-requires xor-requires returns returns-2)

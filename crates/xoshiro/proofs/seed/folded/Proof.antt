@@ -1,4 +1,4 @@
--- `folded` meets its contract.
+-- `folded` meets its contract: the four words are those of the bytes, and are XORed in the same order.
 use borrow.Author.Needs.{needs}
 use Rattle.xoshiro.proofs.seed.folded.Statement.{statement}
 use Rattle.xoshiro.proofs.seed.folded.Tie as tie

@@ -1,4 +1,4 @@
--- `mix` meets its contract.
+-- `mix` meets its contract: the same operations in the same order.
 use borrow.Author.Needs.{needs}
 use Rattle.xoshiro.specs.SplitMix64.{mixed}
 use Rattle.xoshiro.proofs.seed.mix.Statement.{statement}

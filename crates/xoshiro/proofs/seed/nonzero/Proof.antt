@@ -1,4 +1,4 @@
--- `nonzero` meets its contract.
+-- `nonzero` meets its contract: the code's test is the definition's.
 use borrow.Author.Tests.{eq-eqb, ne-eqb}
 use Rattle.xoshiro.proofs.seed.nonzero.Statement.{statement}
 use Rattle.xoshiro.proofs.seed.nonzero.Tie as tie

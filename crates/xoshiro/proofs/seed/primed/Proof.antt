@@ -1,4 +1,4 @@
--- `primed` meets its contract.
+-- `primed` meets its contract: each call moves the state on and gives its word, four times.
 use borrow.Author.Needs.{needs}
 use Rattle.xoshiro.specs.Seed.{fourWords}
 use Rattle.xoshiro.proofs.seed.primed.Statement.{statement}
@@ -19,11 +19,12 @@ splitmix64-requires-4 c κs = search needs
 returns : tie.Need-returns
 unfolding fourWords
 returns c =
-    let fourth = c .splitmix644 .ensures in
-    let third = c .before .before .splitmix643 .ensures in
-    let second = c .before .before .before .before .splitmix642 .ensures in
-    let first = c .before .before .before .before .before .before .splitmix64 .ensures in
-    rw (fourth .1, third .1, third .0, second .1, second .0, first .1, first .0)
+    let third = c .before .before in
+    let second = third .before .before in
+    let first = second .before .before .splitmix64 .ensures in
+    let two = second .splitmix642 .ensures in
+    let three = third .splitmix643 .ensures in
+    rw (c .splitmix644 .ensures .1, three .1, three .0, two .1, two .0, first .1, first .0)
 
 pub primed-spec : {M : Type 1} → statement M
 primed-spec =

@@ -1,4 +1,4 @@
--- `splitmix64` meets its contract.
+-- `splitmix64` meets its contract: the state moves on, and the word is the new state's.
 use mathlib.Core.Path.{_∙_, ap}
 use borrow.Author.Needs.{needs}
 use Rattle.xoshiro.specs.SplitMix64.{mixed}

@@ -1,4 +1,4 @@
--- `Pcg32::from_seed_stream` meets its contract.
+-- `Pcg32::from_seed_stream` meets its contract: the same steps in the same order; twice the stream is even, so the 1 fits.
 use borrow.Author.Needs.{needs}
 use Rattle.pcg.specs.Lcg.{seededState}
 use Rattle.pcg.proofs.pcg32.Pcg32.from_seed_stream.Statement.{statement}

@@ -1,4 +1,4 @@
--- `Pcg32::from_slice` meets its contract.
+-- `Pcg32::from_slice` meets its contract: the bytes' two words are the seed and the stream.
 use borrow.Author.Needs.{needs}
 use Rattle.pcg.proofs.pcg32.Pcg32.from_slice.Statement.{statement}
 use Rattle.pcg.proofs.pcg32.Pcg32.from_slice.Tie as tie

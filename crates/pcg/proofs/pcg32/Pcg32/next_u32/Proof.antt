@@ -1,4 +1,4 @@
--- `Pcg32::next_u32` meets its contract.
+-- `Pcg32::next_u32` meets its contract: the old state's word beside the state after it.
 use borrow.Author.Needs.{needs}
 use Rattle.pcg.proofs.pcg32.Pcg32.next_u32.Statement.{statement}
 use Rattle.pcg.proofs.pcg32.Pcg32.next_u32.Tie as tie

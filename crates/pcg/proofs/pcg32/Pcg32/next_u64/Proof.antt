@@ -1,4 +1,4 @@
--- `Pcg32::next_u64` meets its contract.
+-- `Pcg32::next_u64` meets its contract: two draws, the first in the low half.
 use borrow.Author.Needs.{needs}
 use Rattle.pcg.proofs.pcg32.Pcg32.next_u64.Statement.{statement}
 use Rattle.pcg.proofs.pcg32.Pcg32.next_u64.Tie as tie
@@ -22,7 +22,10 @@ add-t9 : tie.Need-add-t9
 add-t9 c = search needs
 
 returns : tie.Need-returns
-returns c = rw (c .before .before .before .next-u322 .ensures, c .before .before .before .before .before .next-u32 .ensures)
+returns c =
+    let high = c .before .before .before in
+    let low = high .before .before in
+    rw (high .next-u322 .ensures, low .next-u32 .ensures)
 
 pub next-u64-spec : {M : Type 1} → statement M
 next-u64-spec =

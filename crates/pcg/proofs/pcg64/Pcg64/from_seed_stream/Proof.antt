@@ -1,4 +1,4 @@
--- `Pcg64::from_seed_stream` meets its contract.
+-- `Pcg64::from_seed_stream` meets its contract: the same steps in the same order; a number is what its two words hold.
 use borrow.Author.Needs.{needs}
 use Rattle.wrapping.specs.WideLaws.{value-wide}
 use Rattle.pcg.specs.Lcg.{seededState}
@@ -20,8 +20,10 @@ next-state-requires-2 c κs = search needs
 returns : tie.Need-returns
 unfolding seededState
 returns c =
-    rw (c .next-state2 .ensures, c .before .wrapping-add .ensures, c .before .before .next-state .ensures, c .before .before .before .increment .ensures)
-    (simp value-wide)
+    let added = c .before in
+    let first = added .before in
+    let inc = first .before in
+    rw (c .next-state2 .ensures, added .wrapping-add .ensures, first .next-state .ensures, inc .increment .ensures) (simp value-wide)
 
 pub from-seed-stream-spec : {M : Type 1} → statement M
 from-seed-stream-spec =

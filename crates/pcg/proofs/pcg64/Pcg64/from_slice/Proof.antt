@@ -12,6 +12,7 @@ use Rattle.pcg.specs.Pcg64.{seeded}
 use Rattle.pcg.proofs.pcg64.Pcg64.from_slice.Statement.{statement}
 use Rattle.pcg.proofs.pcg64.Pcg64.from_slice.Tie as tie
 
+-- the two words of a number of 16 bytes, and the same with the low bit set
 joined : (s : List ℕ) (i : ℕ) → little 8 s (i + 8) * 2 ^ 64 + little 8 s i ≡ little 16 s i
 joined s i = rw (little-joined 8 8 s i) (omega arith)
 
@@ -41,12 +42,14 @@ from-seed-stream-requires c κs = search needs
 
 returns : tie.Need-returns
 returns c =
-    let s = now (c .before .before .before .before .before .before .args .seed) in
-    let first = c .before .before .before .before .le-u64 .ensures in
-    let second = c .before .before .before .le-u642 .ensures in
-    let third = c .before .before .le-u643 .ensures in
-    let fourth = c .before .le-u644 .ensures in
-    c .from-seed-stream .ensures ∙ rw (fourth, third, second, first) (ap₂ seeded (joined s 0) (joined-odd s 16))
+    let fourth = c .before in
+    let third = fourth .before in
+    let second = third .before in
+    let first = second .before in
+    let s = now (first .before .before .args .seed) in
+    c .from-seed-stream .ensures
+    ∙ rw (fourth .le-u644 .ensures, third .le-u643 .ensures, second .le-u642 .ensures, first .le-u64 .ensures)
+    (ap₂ seeded (joined s 0) (joined-odd s 16))
 
 pub from-slice-spec : {M : Type 1} → statement M
 from-slice-spec =

@@ -1,4 +1,4 @@
--- `Pcg64::next_u32` meets its contract.
+-- `Pcg64::next_u32` meets its contract: a shift by 32 leaves the high half of the word.
 use borrow.Author.Needs.{needs}
 use Rattle.pcg.proofs.pcg64.Pcg64.next_u32.Statement.{statement}
 use Rattle.pcg.proofs.pcg64.Pcg64.next_u32.Tie as tie

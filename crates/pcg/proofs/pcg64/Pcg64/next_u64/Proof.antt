@@ -1,4 +1,4 @@
--- `Pcg64::next_u64` meets its contract.
+-- `Pcg64::next_u64` meets its contract: the old state's word beside the state after it.
 use borrow.Author.Needs.{needs}
 use Rattle.pcg.proofs.pcg64.Pcg64.next_u64.Statement.{statement}
 use Rattle.pcg.proofs.pcg64.Pcg64.next_u64.Tie as tie

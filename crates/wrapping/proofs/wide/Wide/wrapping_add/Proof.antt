@@ -1,4 +1,4 @@
--- `Wide::wrapping_add` meets its contract.
+-- `Wide::wrapping_add` meets its contract: the carry of the low words is 1 where their wrapped sum is below one of them, and otherwise 0.
 use mathlib.Core.Path.{_∙_}
 use native.Mathlib.Omega.{arith}
 use native.Mathlib.Nat.{mod-add-mod, add-zero}
@@ -18,19 +18,23 @@ wrapping-add-u64-requires-3 c κs = search needs
 
 returns : tie.Need-returns
 returns c =
-    let a = c .before .before .before .before .before .args in
-    let low = c .before .before .before .before .wrapping-add-u64 in
-    let high = c .before .before .before .wrapping-add-u642 in
-    let one = carried (low .result) (a .self .low) (a .other .low) (omega arith) (omega arith) (low .ensures) (c .before .if1 .taken) in
-    sum-words _ (a .self) (a .other) (rw one (c .wrapping-add-u643 .ensures ∙ rw (high .ensures, mod-add-mod))) (low .ensures)
+    let test = c .before in
+    let high = test .before .before in
+    let low = high .before in
+    let a = low .before .args in
+    let told = low .wrapping-add-u64 .ensures in
+    let one = carried _ (a .self .low) (a .other .low) (omega arith) (omega arith) told (test .if1 .taken) in
+    sum-words _ (a .self) (a .other)
+    (rw one (c .wrapping-add-u643 .ensures ∙ rw (high .wrapping-add-u642 .ensures, mod-add-mod))) told
 
 returns-2 : tie.Need-returns-2
 returns-2 c =
-    let a = c .before .before .before .before .args in
-    let low = c .before .before .before .wrapping-add-u64 in
-    let high = c .before .before .wrapping-add-u642 in
-    let none = uncarried (low .result) (a .self .low) (a .other .low) (omega arith) (omega arith) (low .ensures) (c .if1 .left) in
-    sum-words _ (a .self) (a .other) (rw (none, add-zero) (high .ensures)) (low .ensures)
+    let high = c .before .before in
+    let low = high .before in
+    let a = low .before .args in
+    let told = low .wrapping-add-u64 .ensures in
+    let none = uncarried _ (a .self .low) (a .other .low) (omega arith) (omega arith) told (c .if1 .left) in
+    sum-words _ (a .self) (a .other) (rw (none, add-zero) (high .wrapping-add-u642 .ensures)) told
 
 pub wrapping-add-spec : {M : Type 1} → statement M
 wrapping-add-spec =

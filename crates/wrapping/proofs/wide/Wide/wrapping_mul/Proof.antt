@@ -1,5 +1,7 @@
--- `Wide::wrapping_mul` meets its contract.
+-- `Wide::wrapping_mul` meets its contract: the high word is the upper word of the low words' product and the two cross products, summed
+-- as they come, each wrapped.
 use mathlib.Core.Path.{_∙_}
+use Prim.Native.Nat.{_*_, _/_, _^_}
 use native.Mathlib.Nat.{add-mod-mod, add-comm}
 use borrow.Author.Needs.{needs}
 use Rattle.wrapping.specs.WideLaws.{product-words, sum-of-wrapped}
@@ -26,14 +28,17 @@ mul-u64-requires-3 c κs = search needs
 
 returns : tie.Need-returns
 returns c =
-    let a = c .before .before .before .before .before .before .args in
-    let left = c .before .before .before .before .before .mul-u64 in
-    let right = c .before .before .before .before .mul-u642 in
-    let cross = c .before .before .before .wrapping-add-u64 in
-    let high = c .before .before .upper-u64 in
-    let sum = c .before .wrapping-add-u642 in
+    let sum = c .before in
+    let upper = sum .before in
+    let cross = upper .before in
+    let right = cross .before in
+    let left = right .before in
+    let a = left .before .args in
+    let wrapped = sum-of-wrapped (a .self .high * a .other .low) (a .self .low * a .other .high) (a .self .low * a .other .low / 2 ^ 64) in
+    let crossed = rw (left .mul-u64 .ensures, right .mul-u642 .ensures) at (cross .wrapping-add-u64 .ensures) in
     product-words _ (a .self) (a .other)
-    (sum .ensures ∙ rw (high .ensures, cross .ensures, left .ensures, right .ensures, add-mod-mod, add-comm) (sum-of-wrapped _ _ _)) (c .mul-u643 .ensures)
+    (sum .wrapping-add-u642 .ensures ∙ rw (upper .upper-u64 .ensures, crossed, add-mod-mod, add-comm) wrapped)
+    (c .mul-u643 .ensures)
 
 pub wrapping-mul-spec : {M : Type 1} → statement M
 wrapping-mul-spec =

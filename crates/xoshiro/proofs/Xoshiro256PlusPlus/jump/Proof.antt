@@ -1,11 +1,11 @@
--- `all_turns` meets its contract. The loop's invariant: after i turns the jump has come as far as `jumping i`.
+-- `jump` meets its contract. The loop's invariant: after i turns the jump has come as far as `jumping i`.
 use mathlib.Core.Path.{_≡_, refl, _∙_}
 use Prim.Native.Nat.{_≤_, _-_}
 use native.Mathlib.Numerals.{add-one}
 use native.Mathlib.Omega.{arith}
 use Rattle.xoshiro.specs.Jump.{jumping, jumped}
-use Rattle.xoshiro.proofs.jump.all_turns.Statement.{statement}
-use Rattle.xoshiro.proofs.jump.all_turns.Tie as tie
+use Rattle.xoshiro.proofs.Xoshiro256PlusPlus.jump.Statement.{statement}
+use Rattle.xoshiro.proofs.Xoshiro256PlusPlus.jump.Tie as tie
 
 abbrev Inv-loop : tie.InvT-loop
 Inv-loop j₀ i₀ j i = (i ≤ 256) × (j ≡ jumping i (j₀ .at))
@@ -37,7 +37,7 @@ returns c =
     let end : loop .i ≡ 256 = omega arith in
     rw (loop .inv .1, end)
 
-pub all-turns-spec : {M : Type 1} → statement M
-all-turns-spec =
+pub jump-spec : {M : Type 1} → statement M
+jump-spec =
     tie.close
     (tie.spec Inv-loop μ-loop loop-holds turn-requires add-i loop-less loop-again returns)
