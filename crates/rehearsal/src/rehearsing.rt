@@ -17,7 +17,7 @@ pub struct Rehearsed {
 }
 
 // The words taken at once. Nothing depends on it but the time.
-const BLOCK: usize = 32;
+const BLOCK: usize = 256;
 
 fn told(complete: bool, used: u32, settled: u32) -> Rehearsed
     ensures { λ r. ⌜ r ≡ tell complete used settled ⌝ }

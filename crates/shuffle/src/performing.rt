@@ -11,7 +11,7 @@ use rehearsal::Draws;
 use rehearsal::Turn;
 
 // The words taken at once. Nothing depends on it but the time.
-const BLOCK: usize = 32;
+const BLOCK: usize = 256;
 
 // The draws of a shuffle of n entries: below n, n - 1, .., 2. None where the list is too long.
 pub(crate) fn draws_of(n: usize, budget: u32) -> Draws

@@ -11,7 +11,7 @@ use Rattle.rehearsal.proofs.rehearsing.run.Statement.{statement}
 use Rattle.rehearsal.proofs.rehearsing.run.Tie as tie
 
 abbrev Inv-loop : tie.InvT-loop
-Inv-loop d mt₀ block₀ t₀ mt block t = Standing (joinedWith (t₀ .next) mt₀) d t (joinedWith (t .next) mt) × (length block ≡ 32)
+Inv-loop d mt₀ block₀ t₀ mt block t = Standing (joinedWith (t₀ .next) mt₀) d t (joinedWith (t .next) mt) × (length block ≡ 256)
 
 abbrev μ-loop : tie.MeasureT-loop
 μ-loop d mt₀ block₀ t₀ mt block t = d .budget - t .used

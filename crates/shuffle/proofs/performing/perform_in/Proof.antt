@@ -11,7 +11,7 @@ use Rattle.shuffle.proofs.performing.perform_in.Statement.{statement}
 use Rattle.shuffle.proofs.performing.perform_in.Tie as tie
 
 abbrev Inv-loop : tie.InvT-loop
-Inv-loop mt₀ list₀ budget d block₀ t₀ mt list block t = Performing (joinedWith (t₀ .next) mt₀) d list₀ t (joinedWith (t .next) mt) list × (length block ≡ 32)
+Inv-loop mt₀ list₀ budget d block₀ t₀ mt list block t = Performing (joinedWith (t₀ .next) mt₀) d list₀ t (joinedWith (t .next) mt) list × (length block ≡ 256)
 
 abbrev μ-loop : tie.MeasureT-loop
 μ-loop mt₀ list₀ budget d block₀ t₀ mt list block t = d .budget - t .used
