@@ -1,5 +1,6 @@
 -- Where the place or the start of an answered call lies, of every generator: a promise is all that these laws ask for, since a generator's
--- words have 32 bits. A lent promise is the by-value promise of what engine and table make together, so they are laws of the lent calls too.
+-- words have 32 bits. A lent promise is the by-value promise of what engine and table make together, so they are laws of the lent calls
+-- too.
 use mathlib.Core.List.{List}
 use mathlib.Core.Path.{_≡_}
 use Prim.Native.Nat.{ℕ, _+_, _≤_, _<_}
