@@ -14,3 +14,5 @@ pub mod RangeLaws
 -- The contracts by name, and that each leaves one answer.
 pub mod Promises
 pub mod PromisesLaws
+-- Where the value of an answered call lies, of every generator.
+pub mod Values

@@ -5,3 +5,4 @@ pub mod Spreads
 pub mod Laws
 pub mod Promises
 pub mod PromisesLaws
+pub mod Values

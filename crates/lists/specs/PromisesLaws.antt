@@ -2,6 +2,7 @@
 use mathlib.Core.List.{List}
 use mathlib.Core.Path.{_≡_, sym, _∙_}
 use Prim.Native.Nat.{ℕ}
+use denote.Ref.{RefT, ptr, now}
 use Rattle.random.specs.Lent.{joinedWith}
 use Rattle.random.specs.declared.backend.Random.{Random}
 use Rattle.random.specs.declared.engine.Engine.{Engine}
@@ -38,6 +39,7 @@ pub one-rand-slice-in : (e : Engine) (mt list : List ℕ) (window budget : ℕ) 
     → RandSliceInPromise e mt list window budget a mt₁ → RandSliceInPromise e mt list window budget b mt₂ → (a ≡ b) × (mt₁ ≡ mt₂)
 one-rand-slice-in e mt list window budget p q = start-apart (one-rand-slice (joinedWith e mt) list window budget p q)
 
-pub one-window-of : (list : List ℕ) (start window : ℕ) {a b : List ℕ}
-    → WindowOfPromise list start window a → WindowOfPromise list start window b → a ≡ b
-one-window-of list start window p q = p ∙ sym q
+-- the same entries, at the same place
+pub one-window-of : (list : RefT (List ℕ)) (start window : ℕ) (a b : RefT (List ℕ))
+    → WindowOfPromise list start window a → WindowOfPromise list start window b → (now a ≡ now b) × (ptr a ≡ ptr b)
+one-window-of list start window a b p q = (p .0 ∙ sym (q .0), p .1 ∙ sym (q .1))

@@ -1,7 +1,7 @@
 -- What the code of `rand_slice` and `window_of` builds is the answer of their definitions.
 use mathlib.Core.Path.{_≡_, refl, _∙_, ap}
 use mathlib.Core.List.{List, []}
-use Prim.Native.Nat.{ℕ, _+_, _-_, _≤_, _<_}
+use Prim.Native.Nat.{ℕ, _+_, _-_, _*_, _≤_, _<_}
 use native.Mathlib.Omega.{arith}
 use borrow.Author.Tests.{le-leb, lt-leb}
 use lib.ListN.{length, take, drop}
@@ -12,7 +12,7 @@ use Rattle.bounded.specs.declared.answers.EngineAnswer.{EngineAnswer}
 use Rattle.bounded.specs.Answers.{answerFrom, outcomeIn, joinedAnswer}
 use Rattle.bounded.specs.AnswerLaws.{worked-answers}
 use Rattle.lists.specs.declared.outcomes.SliceOutcome.{SliceOutcome}
-use Rattle.lists.specs.Slicing.{startOf, startWith, startFrom, partOf}
+use Rattle.lists.specs.Slicing.{startOf, startWith, startFrom, partOf, partPlace}
 use Rattle.lists.specs.Promises.{PartFits}
 
 -- ---- the start
@@ -50,3 +50,16 @@ module _ (list : List ℕ) (start window : ℕ) where
   cut-within h =
       let e : start + window - start ≡ window = omega arith in
       rw (part-within h, e)
+
+-- ---- and where it lies
+
+module _ (begins : ℕ × ℕ) (n start window : ℕ) where
+  pub place-within : start + window ≤ n → (begins .0, start * 4 + begins .1) ≡ partPlace begins n start window
+  unfolding partPlace
+  place-within h = rw (le-leb (start + window) n h)
+
+  pub place-past : n < start + window → (begins .0, 0 * 4 + begins .1) ≡ partPlace begins n start window
+  unfolding partPlace
+  place-past h =
+      let none : 0 * 4 + begins .1 ≡ begins .1 = omega arith in
+      rw (lt-leb (start + window) n h, none)

@@ -1,13 +1,15 @@
--- The words stay below 2 ^ 32. `Words t` bounds every entry, also past the end, where `getD` gives 0: so no law asks a length.
+-- Words have 32 bits, and tables of such words stay so. `Words t` bounds every entry, also past the end, where `getD` gives 0: so no law
+-- asks for a length.
 use mathlib.Core.List.{List}
 use mathlib.Core.Logic.{⊎-elim}
 use mathlib.Core.Path.{_≡_}
 use Prim.Native.Nat.{ℕ, zero, suc, _+_, _*_, _/_, _%_, _^_, _≤_, _<_}
 use native.Mathlib.Decide.{decLe}
-use native.Mathlib.Nat.{eq-zero-or-pos, eq-or-lt-of-le, lt-of-not-le, lt-of-le-of-lt, div-le-self}
+use native.Mathlib.Nat.{eq-zero-or-pos, eq-or-lt-of-le, lt-of-not-le, lt-of-le-of-lt, div-le-self, mod-lt, mod-eq-of-lt}
 use native.Mathlib.Omega.{arith}
 use borrow.Author.Tests.{eq-eqb, ne-eqb}
 use lib.Bits.{bitAnd, bitXor, and-le-l, xor-lt}
+use lib.Dec.{lit<}
 use lib.ListN.{getD, set, length, List·getD-eq-default}
 use lib.Seq.{getD-set-same, getD-set-other, set-out}
 use Rattle.mersenne_twister.specs.declared.MersenneTwister.{MersenneTwister}
@@ -40,10 +42,10 @@ pub follow-lt : (u l m : ℕ) → m < 2 ^ 32 → follow u l m < 2 ^ 32
 unfolding follow
 follow-lt u l m h = xor-lt 32 m _ h (times-lt _ (joined-lt u l))
 
--- tempering keeps 32 bits
-pub temper-lt : (x : ℕ) → x < 2 ^ 32 → temper x < 2 ^ 32
+-- a tempered word has 32 bits, whatever number it was
+pub temper-lt : (x : ℕ) → temper x < 2 ^ 32
 unfolding temper temper1 temper2 temper3 temper4
-temper-lt x h = shifted 18 (masked 15 0xefc60000 (masked 7 0x9d2c5680 (shifted 11 h)))
+temper-lt x = shifted 18 (masked 15 0xefc60000 (masked 7 0x9d2c5680 (shifted 11 (mod-lt x (lit< tt)))))
   where
     shifted : {a : ℕ} (k : ℕ) → a < 2 ^ 32 → bitXor a (a / 2 ^ k) < 2 ^ 32
     shifted {a} k b = xor-lt 32 a _ b (lt-of-le-of-lt (div-le-self a (2 ^ k)) b)
@@ -51,7 +53,12 @@ temper-lt x h = shifted 18 (masked 15 0xefc60000 (masked 7 0x9d2c5680 (shifted 1
     masked : {a : ℕ} (k m : ℕ) → a < 2 ^ 32 → bitXor a (bitAnd (a * 2 ^ k % 2 ^ 32) m) < 2 ^ 32
     masked {a} k m b = xor-lt 32 a _ b (omega (arith, and-le-l (a * 2 ^ k % 2 ^ 32) m))
 
--- so does seeding
+-- of a word of 32 bits it is the four steps in a row
+pub temper-steps : (x : ℕ) → x < 2 ^ 32 → temper4 (temper3 (temper2 (temper1 x))) ≡ temper x
+unfolding temper
+temper-steps x h = rw (mod-eq-of-lt h)
+
+-- seeding keeps 32 bits
 pub seed-word-lt : (s i : ℕ) → s < 2 ^ 32 → seedWord s i < 2 ^ 32
 unfolding seedWord seedStep
 seed-word-lt s zero h = h
@@ -101,29 +108,30 @@ words-renewed (suc n) t w =
 
 -- ---- draws
 
--- a draw gives a word of 32 bits, and leaves a table of such words
-pub record DrawBounds (g : MersenneTwister) : Type 0 where
-  pub word : drawn g .word < 2 ^ 32
-  pub table : Words (drawn g .next .mt)
-
-pub draw-bounds : (g : MersenneTwister) → Words (g .mt) → DrawBounds g
-draw-bounds g w =
+-- a word drawn has 32 bits, whatever the table holds,
+pub drawn-lt : (g : MersenneTwister) → drawn g .word < 2 ^ 32
+drawn-lt g =
     elim (decLe 624 (g .mti)) [
-      | yes h ↦ let n : Words (renewed 624 (g .mt)) = words-renewed 624 (g .mt) w in
-          record { word = rw (in-high (g .mt) (g .mti) h) (temper-lt _ (n 0)); table = rw (in-high (g .mt) (g .mti) h) n }
-      | no h ↦ let l : g .mti < 624 = lt-of-not-le h in
-          record { word = rw (in-low (g .mt) (g .mti) l) (temper-lt _ (w (g .mti))); table = rw (in-low (g .mt) (g .mti) l) w }
+      | yes h ↦ rw (in-high (g .mt) (g .mti) h) (temper-lt _)
+      | no h ↦ rw (in-low (g .mt) (g .mti) (lt-of-not-le h)) (temper-lt _)
     ]
 
--- so the tables of all draws in a row have words of 32 bits, and so have the words drawn
+pub word-lt : (g : MersenneTwister) (k : ℕ) → wordOf g k < 2 ^ 32
+unfolding wordOf
+word-lt g k = drawn-lt (after k g)
+
+pub word64-lt : (g : MersenneTwister) → drawn64 g .word < 2 ^ 64
+word64-lt g = rw (word64-is g) (omega (arith, word-lt g 0, word-lt g 1))
+
+-- and a table whose entries have 32 bits each stays one
+pub words-drawn : (g : MersenneTwister) → Words (g .mt) → Words (drawn g .next .mt)
+words-drawn g w =
+    elim (decLe 624 (g .mti)) [
+      | yes h ↦ rw (in-high (g .mt) (g .mti) h) (words-renewed 624 (g .mt) w)
+      | no h ↦ rw (in-low (g .mt) (g .mti) (lt-of-not-le h)) w
+    ]
+
 pub words-after : (n : ℕ) (g : MersenneTwister) → Words (g .mt) → Words (after n g .mt)
 unfolding after
 words-after zero g w = w
-words-after (suc n) g w = draw-bounds (after n g) (words-after n g w) .table
-
-pub word-lt : (g : MersenneTwister) (k : ℕ) → Words (g .mt) → wordOf g k < 2 ^ 32
-unfolding wordOf
-word-lt g k w = draw-bounds (after k g) (words-after k g w) .word
-
-pub word64-lt : (g : MersenneTwister) → Words (g .mt) → drawn64 g .word < 2 ^ 64
-word64-lt g w = rw (word64-is g) (omega (arith, word-lt g 0 w, word-lt g 1 w))
+words-after (suc n) g w = words-drawn (after n g) (words-after n g w)

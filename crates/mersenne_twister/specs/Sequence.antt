@@ -77,9 +77,9 @@ temper3 y = bitXor y (bitAnd (y * 2 ^ 15 % 2 ^ 32) 0xefc60000)
 unfoldable pub temper4 : (y : ℕ) → ℕ
 temper4 y = bitXor y (y / 2 ^ 18)
 
--- the four steps in a row
+-- the four steps in a row, on a word of 32 bits: what a number has above them is not looked at
 unfoldable pub temper : (x : ℕ) → ℕ
-temper x = temper4 (temper3 (temper2 (temper1 x)))
+temper x = temper4 (temper3 (temper2 (temper1 (x % 2 ^ 32))))
 
 -- ---- the words of a seed: `init_genrand` of the authors' mt19937ar.c (2002)
 

@@ -24,9 +24,9 @@ parts state inc = record { state = state; inc = inc }
 abbrev pub nextState : (inc state : Wide) → Wide
 nextState inc state = wide (affine 128 multiplier (value inc) (value state))
 
--- XSL-RR: rotr64((state >> 64) ^ state, state >> 122)
+-- XSL-RR: rotr64((uint64_t)(state >> 64) ^ (uint64_t)state, state >> 122)
 abbrev pub output : Wide → ℕ
-output s = rotateRight 64 (bitXor (value s / 2 ^ 64) (value s % 2 ^ 64)) (value s / 2 ^ 122)
+output s = rotateRight 64 (bitXor (value s / 2 ^ 64 % 2 ^ 64) (value s % 2 ^ 64)) (value s / 2 ^ 122)
 
 -- the generator after a word
 abbrev pub stepped : Pcg64 → Pcg64

@@ -10,6 +10,9 @@ use Rattle.words.specs.Draw.{Words, all}
 use Rattle.words.specs.EachInTurn.{InTurn, each-in-turn}
 use Rattle.words.specs.BelowItsBound.{WordSized, draws-below}
 use Rattle.words.specs.SettledNeverFalls.{as-many-values}
+use Rattle.random.specs.declared.backend.Random.{Random}
+use Rattle.random.specs.Generator.{wordsOf}
+use Rattle.random.specs.Sizes.{words-sized}
 use Rattle.rehearsal.specs.Bounds.{boundsFrom}
 use Rattle.rehearsal.specs.BoundsLaws.{bounds-length, bound-at, bounds-split}
 use Rattle.shuffle.specs.Shuffle.{placesDrawn}
@@ -35,3 +38,8 @@ module _ (s : Words) (n budget : ℕ) {places : List ℕ} {used : ℕ} (e : plac
         let below =
         draws-below s (boundsFrom n true (n - 1)) budget sized e .below (n - 1 - i) (rw (bounds-length n true (n - 1)) (omega arith)) in
         omega (arith, below, bound-at n true (n - 1) (n - 1 - i) (omega arith))
+
+-- of every generator, since its words have 32 bits
+pub place-drawn-at-most : (g : Random) (n budget : ℕ) {places : List ℕ} {used : ℕ} → placesDrawn (wordsOf g) n budget ≡ all places used
+    → (i : ℕ) → 0 < i → i < n → getD places (n - 1 - i) 0 ≤ i
+place-drawn-at-most g n budget e i some inside = place-at-most (wordsOf g) n budget e i some inside (words-sized g)

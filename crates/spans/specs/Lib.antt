@@ -15,3 +15,5 @@ pub mod IntAnswerLaws
 -- The contracts by name, and that each leaves one answer.
 pub mod Promises
 pub mod PromisesLaws
+-- Where the value of an answered call lies, of every generator.
+pub mod Values

@@ -1,11 +1,11 @@
 -- `window_of` meets its contract: no sum wraps, since the window is held against what is left after the start.
 use mathlib.Core.Path.{sym}
 use mathlib.Core.Logic.{⊎-elim}
-use Prim.Native.Nat.{_+_, _<_}
+use Prim.Native.Nat.{_+_, _≤_, _<_}
 use lib.ListN.{length}
 use native.Mathlib.Omega.{arith}
 use borrow.Author.Needs.{needs}
-use Rattle.lists.specs.SlicingLaws.{cut-within, part-past}
+use Rattle.lists.specs.SlicingLaws.{cut-within, part-past, place-within, place-past}
 use Rattle.lists.proofs.windows.window_of.Statement.{statement}
 use Rattle.lists.proofs.windows.window_of.Tie as tie
 
@@ -29,7 +29,10 @@ part-result-end : tie.Need-part-result-end
 part-result-end c = search needs
 
 returns : tie.Need-returns
-returns c = cut-within _ _ _ (omega (arith, c .before .if2 .taken, c .before .before .if1 .taken))
+returns c =
+    let a = c .before .before .before .args in
+    let within : a .start + a .window ≤ length (a .list .now) = omega (arith, c .before .if2 .taken, c .before .before .if1 .taken) in
+    (cut-within _ _ _ within, place-within (a .list .ptr) _ _ _ within)
 
 sub-result-2 : tie.Need-sub-result-2
 sub-result-2 c = search needs
@@ -41,7 +44,7 @@ part-result-end-2 : tie.Need-part-result-end-2
 part-result-end-2 c = search needs
 
 returns-2 : tie.Need-returns-2
-returns-2 c = sym (part-past _ _ _ (past (c .before)))
+returns-2 c = (sym (part-past _ _ _ (past (c .before))), place-past (c .before .before .args .list .ptr) _ _ _ (past (c .before)))
 
 pub window-of-spec : {M : Type 1} → statement M
 window-of-spec =
