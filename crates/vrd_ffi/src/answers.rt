@@ -1,0 +1,70 @@
+// What the exports hand back beside the state and the table that they leave. Refused, every part but the refusal is 0. The wide parts stand first,
+// and `used` with `refusal` in one word of 8 bytes: an answer is handed on by whole registers.
+
+// A word of 32 or 64 bits, or a position.
+#[repr(C)]
+pub struct Word {
+    pub value: u64,
+    pub refusal: u32,
+}
+
+// A word of 64 bits, read as signed.
+#[repr(C)]
+pub struct SignedWord {
+    pub value: i64,
+    pub refusal: u32,
+}
+
+// A number drawn, and the words used.
+#[repr(C)]
+pub struct Number {
+    pub value: u64,
+    pub used: u32,
+    pub refusal: u32,
+}
+
+// A signed number drawn, and the words used.
+#[repr(C)]
+pub struct Integer {
+    pub used: u32,
+    pub refusal: u32,
+    pub value: i32,
+}
+
+// An entry of a list, its place, and the words used.
+#[repr(C)]
+pub struct Choice {
+    pub place: usize,
+    pub value: u64,
+    pub used: u32,
+    pub refusal: u32,
+}
+
+// A float of 32 bits.
+#[repr(C)]
+pub struct Number32 {
+    pub value: f32,
+    pub refusal: u32,
+}
+
+// A float of 64 bits.
+#[repr(C)]
+pub struct Number64 {
+    pub value: f64,
+    pub refusal: u32,
+}
+
+// A coin, and the words used.
+#[repr(C)]
+pub struct Coin {
+    pub used: u32,
+    pub refusal: u32,
+    pub value: bool,
+}
+
+// Whether two generators are equal.
+#[repr(C)]
+pub struct Equality {
+    pub refusal: u32,
+    pub equal: bool,
+}
