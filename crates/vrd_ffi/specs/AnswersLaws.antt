@@ -4,13 +4,13 @@ use mathlib.Core.Path.{_≡_, refl, sym, _∙_, ap}
 use mathlib.Core.Bool.{Bool, true, false}
 use mathlib.Core.List.{List}
 use Prim.Native.Nat.{ℕ, _≤_, _<_}
-use borrow.Author.Tests.{le-leb, lt-leb}
+use borrow.Author.Tests.{le-leb, lt-leb, ne-eqb}
 use lib.Dec.{leb}
 use Rattle.words.specs.Refusal as refusal
 use Rattle.random.specs.Lent.{joinedWith}
 use Rattle.random.specs.declared.backend.Random.{Random}
 use Rattle.random.specs.declared.engine.Engine.{Engine}
-use Rattle.vrd_ffi.specs.State.{kindIn, generatorIn, stateWith, stateAfter}
+use Rattle.vrd_ffi.specs.State.{kindIn, engineFrom, generatorIn, stateWith, stateAfter}
 use Rattle.vrd_ffi.specs.Answers.{Told, told, Reply, reply, gives, formed, ofKnown, written, atBoundary}
 
 pub told-apart : {A : Type 0} {a b : A} {s s′ t t′ : List ℕ} → told a s t ≡ told b s′ t′ → (a ≡ b) × (s ≡ s′) × (t ≡ t′)
@@ -45,6 +45,12 @@ module _ {A : Type 0} (s t : List ℕ) (none : A) (call : Random → Reply A) wh
   unfolding stateAfter
   wrote k a e u s′ w h = settled k 0 a e u s′ w h
 
+  -- a refused call, of which nothing was written
+  pub kept : kindIn s ≤ 3 → (n : ℕ) (a : A) → (n ≡ refusal.answered → ⊥) → reply n a (generatorIn s t) ≡ call (generatorIn s t)
+      → told a s t ≡ atBoundary s t none call
+  unfolding stateAfter
+  kept k n a h e = settled k n a (engineFrom s) t s (rw (ne-eqb n 0 h)) e
+
 -- two calls that reply the same of the generator that was lent
 pub same-reply : {A : Type 0} (s t : List ℕ) (none : A) (one two : Random → Reply A) → one (generatorIn s t) ≡ two (generatorIn s t)
     → atBoundary s t none one ≡ atBoundary s t none two
@@ -59,6 +65,6 @@ told-formed {A} {B} s t none call f h = ap (λ (x : Told A). told (f (x .answer)
   where
     go : (b : Bool) → leb (kindIn s) 3 ≡ b
         → told (f (atBoundary s t none call .answer)) (atBoundary s t none call .state) (atBoundary s t none call .table)
-          ≡ atBoundary s t (f none) (λ g. formed f (call g))
+        ≡ atBoundary s t (f none) (λ g. formed f (call g))
     go true e = rw e
     go false e = rw e

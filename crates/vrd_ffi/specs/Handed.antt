@@ -1,10 +1,16 @@
 -- The exports' answers: how each is put together, what it is where the call is refused, and what is handed out of the library's answer by value.
-use Prim.Native.Nat.{ℕ}
+use Prim.Native.Nat.{ℕ, _≤_}
+use lib.Dec.{eqb}
 use lib.IntN.{ℤ, pos}
 use lib.Ieee.{Float, ofBits, binary32, binary64}
-use mathlib.Core.Bool.{Bool, false}
+use mathlib.Core.Bool.{Bool, cond}
+use mathlib.Core.List.{List}
+use mathlib.Core.Path.{_≡_}
 use Rattle.words.specs.Draw.{Words, Outcome}
+use Rattle.words.specs.Refusal as refusal
 use Rattle.random.specs.Generator.{wordsOf}
+use Rattle.random.specs.Lent.{engineIn, tableIn}
+use Rattle.random.specs.TableKept.{onTable}
 use Rattle.random.specs.declared.backend.Random.{Random}
 use Rattle.random.specs.declared.by_value.Signed64.{Signed64}
 use Rattle.random.specs.declared.by_value.Word32.{Word32}
@@ -23,6 +29,9 @@ use Rattle.float_draws.specs.declared.coins.Flip.{Flip}
 use Rattle.float_draws.specs.declared.intervals.Spread.{Spread}
 use Rattle.float_draws.specs.declared.units.Drawn32.{Drawn32}
 use Rattle.float_draws.specs.declared.units.Drawn64.{Drawn64}
+use Rattle.making.specs.declared.bytes.Made.{Made}
+use Rattle.parts.specs.OwnParts.{ownParts}
+use Rattle.parts.specs.declared.splitting.EngineSplit.{EngineSplit}
 use Rattle.vrd_ffi.specs.declared.answers.Choice.{Choice}
 use Rattle.vrd_ffi.specs.declared.answers.Coin.{Coin}
 use Rattle.vrd_ffi.specs.declared.answers.Integer.{Integer}
@@ -31,7 +40,8 @@ use Rattle.vrd_ffi.specs.declared.answers.Number32.{Number32}
 use Rattle.vrd_ffi.specs.declared.answers.Number64.{Number64}
 use Rattle.vrd_ffi.specs.declared.answers.SignedWord.{SignedWord}
 use Rattle.vrd_ffi.specs.declared.answers.Word.{Word}
-use Rattle.vrd_ffi.specs.Answers.{Reply, reply, gives}
+use Rattle.vrd_ffi.specs.Answers.{Told, told, Reply, reply, gives, ofKnown}
+use Rattle.vrd_ffi.specs.State.{kindIn, generatorIn, stateWith, stateOf}
 
 -- ---- words
 
@@ -115,3 +125,53 @@ uniformNumber (uniform.Refused n) = number64 zero64 n
 
 abbrev pub spreadOf : Spread → Reply Number64
 spreadOf d = reply (refusalOf (d .answer)) (uniformNumber (d .answer)) (d .next)
+
+-- ---- lists and buffers
+
+-- an answer, and the list or the buffer as the call leaves it
+pub record Listed (A : Type 0) : Type 0 where
+  pub answer : A
+  pub list : List ℕ
+
+abbrev pub listed : {A : Type 0} → A → List ℕ → Listed A
+listed a l = record { answer = a; list = l }
+
+-- ---- generators made
+
+-- a generator written to a state that is made anew
+abbrev pub stateMade : Random → List ℕ
+stateMade g = stateOf (engineIn g)
+
+-- the table is the twister's alone: every other generator that is made leaves it as it came
+abbrev pub tableMade : Random → List ℕ → List ℕ
+tableMade g t = cond (onTable (g .backend)) (tableIn g) t
+
+-- what the library made of bytes; refused, nothing changes
+abbrev pub made : List ℕ → List ℕ → Made → Told ℕ
+made s t m =
+    cond (eqb (m .refusal) refusal.answered) (told refusal.answered (stateMade (m .generator)) (tableMade (m .generator) t)) (told (m .refusal) s t)
+
+-- ---- two generators of one: the refusal, and both states
+
+pub record Halves : Type 0 where
+  pub refusal : ℕ
+  pub parent : List ℕ
+  pub child : List ℕ
+
+abbrev pub halves : ℕ → List ℕ → List ℕ → Halves
+halves n a b = record { refusal = n; parent = a; child = b }
+
+-- the child is written, to a state that is made anew, where the call is answered
+abbrev pub divided : List ℕ → List ℕ → EngineSplit → Halves
+divided s c d =
+    cond (eqb (d .refusal) refusal.answered) (halves refusal.answered (stateWith (d .parent) s) (stateOf (d .child))) (halves (d .refusal) s c)
+
+-- ---- two generators compared: refused where either kind is above 3
+
+abbrev pub sameRefusal : List ℕ → List ℕ → ℕ
+sameRefusal s o = ofKnown s refusal.kind (ofKnown o refusal.kind refusal.answered)
+
+pub record Equal (s t o u : List ℕ) : Type 0 where
+  pub first : kindIn s ≤ 3
+  pub second : kindIn o ≤ 3
+  pub own : ownParts (generatorIn s t) ≡ ownParts (generatorIn o u)

@@ -12,3 +12,9 @@ pub mod Packed
 pub mod AnswersLaws
 pub mod MovesLaws
 pub mod PackedLaws
+pub mod Counting
+pub mod Choosing
+pub mod DrawLaws
+pub mod PromisesLaws
+pub mod WordLaws
+pub mod CallLaws

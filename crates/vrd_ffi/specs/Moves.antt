@@ -4,11 +4,11 @@ use mathlib.Core.Bool.{true}
 use mathlib.Core.List.{List}
 use Prim.Native.Nat.{ℕ, _≤_, _<_, _^_}
 use Rattle.words.specs.Draw.{good, quotient}
-use Rattle.random.specs.Generator.{randOf, u64Of, wordOf}
+use Rattle.random.specs.Generator.{randOf, u64Of, wordOf, steps64}
 use Rattle.random.specs.declared.by_value.Word32.{Word32}
 use Rattle.random.specs.declared.by_value.Word64.{Word64}
 use Rattle.vrd_ffi.specs.Answers.{Reply, gives, told, written}
-use Rattle.vrd_ffi.specs.State.{kindIn, generatorIn}
+use Rattle.vrd_ffi.specs.State.{kindIn, backendIn, generatorIn}
 
 -- a word drawn, as a reply
 abbrev pub drew32 : Word32 → Reply ℕ
@@ -23,6 +23,10 @@ Moves32 s t word s′ t′ = told word s′ t′ ≡ written s (drew32 (randOf (
 
 abbrev pub Moves64 : List ℕ → List ℕ → ℕ → List ℕ → List ℕ → Type 0
 Moves64 s t word s′ t′ = told word s′ t′ ≡ written s (drew64 (u64Of (generatorIn s t)))
+
+-- how many words a word of 64 bits takes
+abbrev pub stepsIn : List ℕ → ℕ
+stepsIn s = steps64 (backendIn s)
 
 -- the kinds whose own word has 64 bits: 0 and 3
 abbrev pub IsWide : List ℕ → Type 0

@@ -5,7 +5,7 @@ use mathlib.Core.List.{List}
 use Prim.Native.Nat.{ℕ, zero, suc, _≤_, _<_, _/_, _*_, _%_, _^_, _+_}
 use native.Mathlib.Omega.{arith}
 use native.Mathlib.Nat.{mod-lt}
-use borrow.Author.Tests.{eq-eqb}
+use borrow.Author.Tests.{eq-eqb, ne-eqb}
 use lib.ListN.{getD}
 use Rattle.words.specs.Draw.{good, quotient}
 use Rattle.words.specs.BelowItsBound.{quotient-below}
@@ -29,7 +29,7 @@ use Rattle.xoshiro.specs.declared.Drawn64 as xoshiro-drawn64
 use Rattle.random.specs.Generator.{step, later, wordOf, word64Of, steps64, randOf, u64Of}
 use Rattle.random.specs.GeneratorLaws.{rand-is-high-half}
 use Rattle.vrd_ffi.specs.Answers.{Told, told, written}
-use Rattle.vrd_ffi.specs.Moves.{drew32, drew64, Moves32, Moves64, IsWide, Settled, Settles, Hit, Quick}
+use Rattle.vrd_ffi.specs.Moves.{drew32, drew64, stepsIn, Moves32, Moves64, IsWide, Settled, Settles, Hit, Quick}
 use Rattle.vrd_ffi.specs.State.{kindIn, positionIn, xoshiroIn, pcg32In, pcg64In, backendIn, generatorIn, smallState, positionState, six, stateWith, stateAfter}
 
 -- ---- each kind's own words: `s′` is the state after the write
@@ -93,6 +93,17 @@ one-step s h zero k = rw (eq-eqb (getD s 0 0) 0 k)
 one-step s h (suc n) k =
     let e : kindIn s ≡ 3 = h (λ z. omega (arith, k, z)) in
     rw (e)
+
+-- the words that a word of 64 bits takes, of kinds other than 1 and 2
+pub one-word : (s : List ℕ) → (kindIn s ≡ 1 → ⊥) → (kindIn s ≡ 2 → ⊥) → 1 ≡ stepsIn s
+unfolding backendIn
+one-word s h l = go (kindIn s) refl
+  where
+    go : (n : ℕ) → kindIn s ≡ n → 1 ≡ stepsIn s
+    go zero k = rw k
+    go (suc n) k =
+        let some : kindIn s ≡ 0 → ⊥ = λ z. omega (arith, k, z) in
+        rw (ne-eqb (getD s 0 0) 0 some, ne-eqb (getD s 0 0) 1 h, ne-eqb (getD s 0 0) 2 l)
 
 pub half-moved : (s t : List ℕ) (w : ℕ) (s′ u : List ℕ) → IsWide s → Moves64 s t w s′ u → Moves32 s t (w / 2 ^ 32) s′ u
 unfolding randOf u64Of later

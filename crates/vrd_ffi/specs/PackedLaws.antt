@@ -114,7 +114,6 @@ module _ (s t : List ℕ) (r least : ℕ) (room : least + r ≤ 2 ^ 32) where
   pub quick-below : (q : ℕ) (s′ : List ℕ) → Hit s t r q s′ → Below r least (least + q)
   quick-below q s′ h z = rw (says-one (least + q) (fits q s′ h)) (omega (arith, h .settled .small))
 
-
 module _ (s t : List ℕ) (r budget least : ℕ) (room : least + r ≤ 2 ^ 32) where
   pub library-draws : kindIn s ≤ 3 → (a : EngineAnswer) (u s′ : List ℕ) → library.joinedAnswer a u ≡ library.answered (generatorIn s t) (boundedBy (wordsOf (generatorIn s t)) r budget)
       → (a .refusal ≡ 0 → a .value < r) → s′ ≡ stateAfter (a .refusal) (a .next) s

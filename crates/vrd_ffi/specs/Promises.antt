@@ -1,9 +1,52 @@
--- What each public call promises of its answer: the contracts of src/, by name.
+-- What each export promises of its answer, and of the state, the table, the list and the buffer that it leaves: by the one rule of Answers.antt the
+-- library's call by value, of the generator that was lent. The contracts of src/, by name.
+use Prim.Native.Nat.{ℕ}
+use lib.Ieee.{Float}
+use lib.IntN.{ℤ, pos}
+use lib.ListN.{length}
+use mathlib.Core.Bool.{false}
 use mathlib.Core.List.{List}
 use mathlib.Core.Path.{_≡_}
-use Prim.Native.Nat.{ℕ}
+use Rattle.words.specs.Draw.{boundedBy}
+use Rattle.words.specs.Refusal as refusal
+use Rattle.wrapping.specs.Wide.{value}
+use Rattle.wrapping.specs.declared.wide.Wide.{Wide}
+use Rattle.xoshiro.specs.Seed as xoshiro
+use Rattle.pcg.specs.Pcg32 as pcg32
+use Rattle.pcg.specs.Pcg64 as pcg64
+use Rattle.mersenne_twister.specs.Table as twister
+use Rattle.random.specs.Generator.{later, wordsOf, randOf, u64Of, i64Of, pseudoOf}
+use Rattle.random.specs.Lent.{tableIn}
 use Rattle.random.specs.declared.engine.Engine.{Engine}
-use Rattle.vrd_ffi.specs.State.{engineFrom, stateWith}
+use Rattle.bounded.specs.Ranges.{rangeBy, charBy}
+use Rattle.spans.specs.Spans.{uintBy, intBy}
+use Rattle.lists.specs.Choosing as choosing
+use Rattle.lists.specs.Limit.{listLimit}
+use Rattle.lists.specs.Slicing as slicing
+use Rattle.shuffle.specs.Shuffle.{shuffleBy, shuffled}
+use Rattle.filling.specs.Fill.{filledBytes, fillWords}
+use Rattle.float_draws.specs.Coins.{flipFrom}
+use Rattle.float_draws.specs.Spreads.{spreadFrom}
+use Rattle.float_draws.specs.Units.{floatFrom, doubleFrom}
+use Rattle.making.specs.Make.{madeBytes, ofXoshiro, ofTwister, ofPcg32, ofPcg64}
+use Rattle.making.specs.Seeding.{seededTo}
+use Rattle.parts.specs.Decides.{Decides}
+use Rattle.parts.specs.Position.{positionOf, storedAt, twisted}
+use Rattle.parts.specs.Splitting.{engineSplit}
+use Rattle.vrd_ffi.specs.declared.answers.Choice.{Choice}
+use Rattle.vrd_ffi.specs.declared.answers.Coin.{Coin}
+use Rattle.vrd_ffi.specs.declared.answers.Equality.{Equality}
+use Rattle.vrd_ffi.specs.declared.answers.Integer.{Integer}
+use Rattle.vrd_ffi.specs.declared.answers.Number.{Number}
+use Rattle.vrd_ffi.specs.declared.answers.Number32.{Number32}
+use Rattle.vrd_ffi.specs.declared.answers.Number64.{Number64}
+use Rattle.vrd_ffi.specs.declared.answers.SignedWord.{SignedWord}
+use Rattle.vrd_ffi.specs.declared.answers.Word.{Word}
+use Rattle.vrd_ffi.specs.Answers.{told, gives, formed, ofKnown, atBoundary}
+use Rattle.vrd_ffi.specs.Handed.{word, signedWord, number, integer, choice, number32, number64, coin, zero32, zero64}
+use Rattle.vrd_ffi.specs.Handed.{wordOf32, wordOf64, signedOf64, drawnBy, countedBy, choiceOf, startOf, floatOf, doubleOf, coinOf, spreadOf}
+use Rattle.vrd_ffi.specs.Handed.{Listed, listed, stateMade, made, halves, divided, sameRefusal, Equal}
+use Rattle.vrd_ffi.specs.State.{backendIn, positionIn, engineFrom, stateWith}
 
 -- ---- the two conversions
 
@@ -12,3 +55,129 @@ EngineInPromise s r = r ≡ engineFrom s
 
 abbrev pub WritePromise : Engine → List ℕ → List ℕ → Type 0
 WritePromise e s s′ = s′ ≡ stateWith e s
+
+-- ---- words
+
+abbrev pub VrdRandPromise : List ℕ → List ℕ → Word → List ℕ → List ℕ → Type 0
+VrdRandPromise s t r s′ t′ = told r s′ t′ ≡ atBoundary s t (word 0 refusal.kind) (λ g. wordOf32 (randOf g))
+
+abbrev pub VrdU64Promise : List ℕ → List ℕ → Word → List ℕ → List ℕ → Type 0
+VrdU64Promise s t r s′ t′ = told r s′ t′ ≡ atBoundary s t (word 0 refusal.kind) (λ g. wordOf64 (u64Of g))
+
+abbrev pub VrdI64Promise : List ℕ → List ℕ → SignedWord → List ℕ → List ℕ → Type 0
+VrdI64Promise s t r s′ t′ = told r s′ t′ ≡ atBoundary s t (signedWord (pos 0) refusal.kind) (λ g. signedOf64 (i64Of g))
+
+abbrev pub VrdPseudoPromise : List ℕ → List ℕ → Word → List ℕ → List ℕ → Type 0
+VrdPseudoPromise s t r s′ t′ = told r s′ t′ ≡ atBoundary s t (word 0 refusal.kind) (λ g. wordOf32 (pseudoOf g))
+
+-- ---- numbers drawn within a budget
+
+abbrev pub VrdBoundedPromise : List ℕ → List ℕ → (r budget : ℕ) → Number → List ℕ → List ℕ → Type 0
+VrdBoundedPromise s t r budget a s′ t′ = told a s′ t′ ≡ atBoundary s t (number 0 0 refusal.kind) (drawnBy (λ w. boundedBy w r budget))
+
+abbrev pub VrdRandomRangePromise : List ℕ → List ℕ → (min max budget : ℕ) → Number → List ℕ → List ℕ → Type 0
+VrdRandomRangePromise s t min max budget a s′ t′ =
+    told a s′ t′ ≡ atBoundary s t (number 0 0 refusal.kind) (drawnBy (λ w. rangeBy w min max budget))
+
+abbrev pub VrdCharPromise : List ℕ → List ℕ → (budget : ℕ) → Number → List ℕ → List ℕ → Type 0
+VrdCharPromise s t budget a s′ t′ = told a s′ t′ ≡ atBoundary s t (number 0 0 refusal.kind) (drawnBy (λ w. charBy w budget))
+
+abbrev pub VrdUintPromise : List ℕ → List ℕ → (min max budget : ℕ) → Number → List ℕ → List ℕ → Type 0
+VrdUintPromise s t min max budget a s′ t′ =
+    told a s′ t′ ≡ atBoundary s t (number 0 0 refusal.kind) (drawnBy (λ w. uintBy w min max budget))
+
+abbrev pub VrdIntPromise : List ℕ → List ℕ → (min max : ℤ) (budget : ℕ) → Integer → List ℕ → List ℕ → Type 0
+VrdIntPromise s t min max budget a s′ t′ =
+    told a s′ t′ ≡ atBoundary s t (integer (pos 0) 0 refusal.kind) (countedBy (λ w. intBy w min max budget))
+
+-- `range` is `int` by its other name
+abbrev pub VrdRangePromise : List ℕ → List ℕ → (min max : ℤ) (budget : ℕ) → Integer → List ℕ → List ℕ → Type 0
+VrdRangePromise = VrdIntPromise
+
+-- ---- lists and buffers
+
+abbrev pub VrdChoosePromise : List ℕ → List ℕ → (list : List ℕ) (budget : ℕ) → Choice → List ℕ → List ℕ → Type 0
+VrdChoosePromise s t list budget a s′ t′ =
+    told a s′ t′ ≡ atBoundary s t (choice 0 0 0 refusal.kind) (λ g. choiceOf (choosing.chosenBy g (choosing.chooseBy (wordsOf g) list budget)))
+
+abbrev pub VrdRandSlicePromise : List ℕ → List ℕ → (list : List ℕ) (window budget : ℕ) → Number → List ℕ → List ℕ → Type 0
+VrdRandSlicePromise s t list window budget a s′ t′ =
+    told a s′ t′
+    ≡ atBoundary s t (number 0 0 refusal.kind) (λ g. startOf (slicing.startedBy g (slicing.sliceBy (wordsOf g) (length list) window budget)))
+
+-- the list too is what the call leaves
+abbrev pub VrdShufflePromise : List ℕ → List ℕ → (list : List ℕ) (budget : ℕ) → Number → List ℕ → List ℕ → (list′ : List ℕ) → Type 0
+VrdShufflePromise s t list budget a s′ t′ list′ =
+    told (listed a list′) s′ t′
+    ≡ atBoundary s t (listed (number 0 0 refusal.kind) list)
+    (λ g. formed (λ (x : Number). listed x (shuffled (wordsOf g) list budget)) (drawnBy (λ w. shuffleBy w (length list) budget) g))
+
+abbrev pub VrdFillBytesPromise : List ℕ → List ℕ → (dest : List ℕ) → ℕ → List ℕ → List ℕ → (dest′ : List ℕ) → Type 0
+VrdFillBytesPromise s t dest r s′ t′ dest′ =
+    told (listed r dest′) s′ t′
+    ≡ atBoundary s t (listed refusal.kind dest)
+    (λ g. gives (listed refusal.answered (filledBytes g (length dest))) (later (fillWords g (length dest)) g))
+
+abbrev pub VrdListLimitPromise : ℕ → Type 0
+VrdListLimitPromise r = r ≡ listLimit
+
+-- ---- floats
+
+abbrev pub VrdFloatPromise : List ℕ → List ℕ → Number32 → List ℕ → List ℕ → Type 0
+VrdFloatPromise s t r s′ t′ = told r s′ t′ ≡ atBoundary s t (number32 zero32 refusal.kind) (λ g. floatOf (floatFrom g))
+
+abbrev pub VrdDoublePromise : List ℕ → List ℕ → Number64 → List ℕ → List ℕ → Type 0
+VrdDoublePromise s t r s′ t′ = told r s′ t′ ≡ atBoundary s t (number64 zero64 refusal.kind) (λ g. doubleOf (doubleFrom g))
+
+abbrev pub VrdBoolPromise : List ℕ → List ℕ → (chance : Float) → Coin → List ℕ → List ℕ → Type 0
+VrdBoolPromise s t chance r s′ t′ = told r s′ t′ ≡ atBoundary s t (coin false 0 refusal.kind) (λ g. coinOf (flipFrom g chance))
+
+abbrev pub VrdUniformPromise : List ℕ → List ℕ → (low high : Float) → Number64 → List ℕ → List ℕ → Type 0
+VrdUniformPromise s t low high r s′ t′ =
+    told r s′ t′ ≡ atBoundary s t (number64 zero64 refusal.kind) (λ g. spreadOf (spreadFrom g (record { low = low; high = high })))
+
+-- ---- makers
+
+abbrev pub VrdMakePromise : List ℕ → List ℕ → (kind : ℕ) (seed : List ℕ) → ℕ → List ℕ → List ℕ → Type 0
+VrdMakePromise s t kind seed r s′ t′ = told r s′ t′ ≡ made s t (madeBytes kind seed)
+
+abbrev pub VrdXoshiroWithSeedPromise : ℕ → List ℕ → Type 0
+VrdXoshiroWithSeedPromise seed s′ = s′ ≡ stateMade (ofXoshiro (xoshiro.seeded seed))
+
+abbrev pub VrdMersenneTwisterWithSeedPromise : ℕ → List ℕ → List ℕ → Type 0
+VrdMersenneTwisterWithSeedPromise seed s′ t′ =
+    let g = ofTwister (twister.seeded seed) in told refusal.answered s′ t′ ≡ told refusal.answered (stateMade g) (tableIn g)
+
+abbrev pub VrdPcg32WithSeedPromise : ℕ → List ℕ → Type 0
+VrdPcg32WithSeedPromise seed s′ = s′ ≡ stateMade (ofPcg32 (pcg32.seeded seed pcg32.defaultStream))
+
+abbrev pub VrdPcg64WithSeedPromise : Wide → List ℕ → Type 0
+VrdPcg64WithSeedPromise seed s′ = s′ ≡ stateMade (ofPcg64 (pcg64.seeded (value seed) pcg64.defaultStream))
+
+abbrev pub VrdPcg32WithStreamPromise : ℕ → ℕ → List ℕ → Type 0
+VrdPcg32WithStreamPromise seed stream s′ = s′ ≡ stateMade (ofPcg32 (pcg32.seeded seed stream))
+
+abbrev pub VrdPcg64WithStreamPromise : Wide → Wide → List ℕ → Type 0
+VrdPcg64WithStreamPromise seed stream s′ = s′ ≡ stateMade (ofPcg64 (pcg64.seeded (value seed) (value stream)))
+
+-- ---- the state
+
+abbrev pub VrdSeedPromise : List ℕ → List ℕ → (seed : ℕ) → ℕ → List ℕ → List ℕ → Type 0
+VrdSeedPromise s t seed r s′ t′ = told r s′ t′ ≡ atBoundary s t refusal.kind (λ g. gives refusal.answered (seededTo g seed))
+
+abbrev pub VrdTwistPromise : List ℕ → List ℕ → ℕ → List ℕ → List ℕ → Type 0
+VrdTwistPromise s t r s′ t′ = told r s′ t′ ≡ atBoundary s t refusal.kind (λ g. gives refusal.answered (twisted g))
+
+-- whatever the table
+abbrev pub VrdSetMtiPromise : List ℕ → (value : ℕ) → ℕ → List ℕ → Type 0
+VrdSetMtiPromise s value r s′ = (t : List ℕ) → told r s′ t ≡ atBoundary s t refusal.kind (λ g. gives refusal.answered (storedAt g value))
+
+abbrev pub VrdMtiPromise : List ℕ → Word → Type 0
+VrdMtiPromise s r = r ≡ ofKnown s (word 0 refusal.kind) (word (positionOf (backendIn s) (positionIn s)) refusal.answered)
+
+abbrev pub VrdSplitPromise : List ℕ → List ℕ → ℕ → List ℕ → List ℕ → Type 0
+VrdSplitPromise s c r s′ c′ = halves r s′ c′ ≡ ofKnown s (halves refusal.kind s c) (divided s c (engineSplit (engineFrom s)))
+
+pub record VrdSamePromise (s t o u : List ℕ) (r : Equality) : Type 0 where
+  pub refusal : r .refusal ≡ sameRefusal s o
+  pub equal : Decides (r .equal) (Equal s t o u)

@@ -1,5 +1,10 @@
 // What the exports hand back beside the state and the table that they leave. Refused, every part but the refusal is 0. The wide parts stand first,
 // and `used` with `refusal` in one word of 8 bytes: an answer is handed on by whole registers.
+ghost use mathlib.Core.Path.{_≡_};
+ghost use Rattle.vrd_ffi.specs.Handed.{number};
+ghost use Rattle.vrd_ffi.specs.State.{stateAfter};
+use crate::writing::settle;
+use bounded::EngineAnswer;
 
 // A word of 32 or 64 bits, or a position.
 #[repr(C)]
@@ -67,4 +72,18 @@ pub struct Coin {
 pub struct Equality {
     pub refusal: u32,
     pub equal: bool,
+}
+
+// The library's answer as it is handed out, and its engine settled into the state.
+pub(crate) fn number_from(a: EngineAnswer, state: &mut [u64; 6]) -> Number
+    ensures told { λ r. ⌜ r ≡ number (a .value) (a .used) (a .refusal) ⌝ }
+    ensures state { λ r. ⌜ now (state .exit) ≡ stateAfter (a .refusal) (a .next) (now (state .entry)) ⌝ }
+{
+    let e = a.next;
+    settle(a.refusal, e, state);
+    Number {
+        value: a.value as u64,
+        used: a.used,
+        refusal: a.refusal,
+    }
 }

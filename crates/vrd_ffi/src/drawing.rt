@@ -52,13 +52,7 @@ pub(crate) fn number_of(p: u64) -> Number
 }
 
 // The draw by the library.
-fn by_library(
-    state: &mut [u64; 6],
-    table: &mut [u32; 624],
-    r: u32,
-    budget: u32,
-    least: u32,
-) -> u64
+fn by_library(state: &mut [u64; 6], table: &mut [u32; 624], r: u32, budget: u32, least: u32) -> u64
     requires { ⌜ least + r ≤ 2 ^ 32 ⌝ }
     ensures draw { λ p. ⌜ Draws (now (state .entry)) (now (table .entry)) r budget least p (now (state .exit)) (now (table .exit)) ⌝ }
     ensures small { λ p. ⌜ Below r least p ⌝ }

@@ -18,14 +18,7 @@ pub(crate) fn put_small(a: u64, b: u64, c: u64, d: u64, state: &mut [u64; 6])
 pub(crate) fn put_position(mti: u32, state: &mut [u64; 6])
     ensures { λ _. ⌜ now (state .exit) ≡ positionState (now (state .entry)) mti ⌝ }
 {
-    *state = [
-        state[0],
-        mti as u64,
-        state[2],
-        state[3],
-        state[4],
-        state[5],
-    ];
+    *state = [state[0], mti as u64, state[2], state[3], state[4], state[5]];
 }
 
 // An engine of any kind.

@@ -1,0 +1,84 @@
+// Words as they come.
+ghost use Rattle.vrd_ffi.specs.Promises.{VrdRandPromise, VrdU64Promise, VrdI64Promise, VrdPseudoPromise};
+use crate::answers::SignedWord;
+use crate::answers::Word;
+use crate::moves::move_u32;
+use crate::moves::move_u64;
+use crate::state::engine_in;
+use crate::writing::write;
+use words::refusal;
+
+// The next word.
+#[no_mangle]
+pub extern "C" fn vrd_rand_in(state: &mut [u64; 6], table: &mut [u32; 624]) -> Word
+    ensures { λ r. ⌜ VrdRandPromise (now (state .entry)) (now (table .entry)) r (now (state .exit)) (now (table .exit)) ⌝ }
+{
+    if state[0] > 3 {
+        return Word {
+            value: 0,
+            refusal: refusal::KIND,
+        };
+    }
+    let word = move_u32(state, table);
+    Word {
+        value: word as u64,
+        refusal: refusal::ANSWERED,
+    }
+}
+
+// The next word of 64 bits, by the kind's own order of halves.
+#[no_mangle]
+pub extern "C" fn vrd_u64_in(state: &mut [u64; 6], table: &mut [u32; 624]) -> Word
+    ensures { λ r. ⌜ VrdU64Promise (now (state .entry)) (now (table .entry)) r (now (state .exit)) (now (table .exit)) ⌝ }
+{
+    if state[0] > 3 {
+        return Word {
+            value: 0,
+            refusal: refusal::KIND,
+        };
+    }
+    let value = move_u64(state, table);
+    Word {
+        value,
+        refusal: refusal::ANSWERED,
+    }
+}
+
+// The same word, read as signed.
+#[no_mangle]
+pub extern "C" fn vrd_i64_in(state: &mut [u64; 6], table: &mut [u32; 624]) -> SignedWord
+    ensures { λ r. ⌜ VrdI64Promise (now (state .entry)) (now (table .entry)) r (now (state .exit)) (now (table .exit)) ⌝ }
+{
+    if state[0] > 3 {
+        return SignedWord {
+            value: 0,
+            refusal: refusal::KIND,
+        };
+    }
+    let word = move_u64(state, table);
+    let value = signed::signed_u64(word);
+    SignedWord {
+        value,
+        refusal: refusal::ANSWERED,
+    }
+}
+
+// The next 32 words, XORed.
+#[no_mangle]
+pub extern "C" fn vrd_pseudo_in(state: &mut [u64; 6], table: &mut [u32; 624]) -> Word
+    ensures { λ r. ⌜ VrdPseudoPromise (now (state .entry)) (now (table .entry)) r (now (state .exit)) (now (table .exit)) ⌝ }
+{
+    if state[0] > 3 {
+        return Word {
+            value: 0,
+            refusal: refusal::KIND,
+        };
+    }
+    let d = random::pseudo_in(engine_in(state), table);
+    let e = d.next;
+    write(e, state);
+    Word {
+        value: d.word as u64,
+        refusal: refusal::ANSWERED,
+    }
+}
