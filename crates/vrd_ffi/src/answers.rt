@@ -87,3 +87,25 @@ pub(crate) fn number_from(a: EngineAnswer, state: &mut [u64; 6]) -> Number
         refusal: a.refusal,
     }
 }
+
+// The same answer, field by field: an answer that a function leaves in memory is so kept apart from the common one, which stays in registers.
+pub(crate) fn number_apart(a: Number) -> Number
+    ensures { λ r. ⌜ r ≡ a ⌝ }
+{
+    Number {
+        value: a.value,
+        used: a.used,
+        refusal: a.refusal,
+    }
+}
+
+pub(crate) fn choice_apart(a: Choice) -> Choice
+    ensures { λ r. ⌜ r ≡ a ⌝ }
+{
+    Choice {
+        place: a.place,
+        value: a.value,
+        used: a.used,
+        refusal: a.refusal,
+    }
+}

@@ -6,6 +6,8 @@ ghost use Rattle.vrd_ffi.specs.Choosing.{entryOf, Within};
 ghost use Rattle.vrd_ffi.specs.Promises.{VrdChoosePromise, VrdRandSlicePromise, VrdListLimitPromise};
 use crate::answers::Choice;
 use crate::answers::Number;
+use crate::answers::choice_apart;
+use crate::answers::number_apart;
 use crate::drawing::drawn_from;
 use crate::drawing::number_of;
 use crate::first_word::MISS;
@@ -90,10 +92,10 @@ pub extern "C" fn vrd_choose_in(
 {
     let n = list.len();
     if n == 0 {
-        return choose_by_library(state, table, list, budget);
+        return choice_apart(choose_by_library(state, table, list, budget));
     }
     if n > lists::limit::LIST_LIMIT {
-        return choose_by_library(state, table, list, budget);
+        return choice_apart(choose_by_library(state, table, list, budget));
     }
     let p = drawn_from(state, table, n as u32, budget, 0);
     if p < MISS {
@@ -147,13 +149,13 @@ pub extern "C" fn vrd_rand_slice_in(
 {
     let n = list.len();
     if n > lists::limit::LIST_LIMIT {
-        return rand_slice_by_library(state, table, list, window, budget);
+        return number_apart(rand_slice_by_library(state, table, list, window, budget));
     }
     if window == 0 {
-        return rand_slice_by_library(state, table, list, window, budget);
+        return number_apart(rand_slice_by_library(state, table, list, window, budget));
     }
     if window > n {
-        return rand_slice_by_library(state, table, list, window, budget);
+        return number_apart(rand_slice_by_library(state, table, list, window, budget));
     }
     number_of(drawn_from(state, table, (n - window + 1) as u32, budget, 0))
 }

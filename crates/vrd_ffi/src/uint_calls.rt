@@ -1,6 +1,7 @@
 // Unsigned numbers between two ends, both included.
 ghost use Rattle.vrd_ffi.specs.Promises.{VrdUintPromise};
 use crate::answers::Number;
+use crate::answers::number_apart;
 use crate::answers::number_from;
 use crate::drawing::drawn_from;
 use crate::drawing::number_of;
@@ -40,11 +41,11 @@ pub extern "C" fn vrd_uint_in(
     ensures { λ a. ⌜ VrdUintPromise (now (state .entry)) (now (table .entry)) min max budget a (now (state .exit)) (now (table .exit)) ⌝ }
 {
     if max <= min {
-        return uint_by_library(state, table, min, max, budget);
+        return number_apart(uint_by_library(state, table, min, max, budget));
     }
     let last = max - min;
     if last == 0xFFFF_FFFF {
-        return uint_by_library(state, table, min, max, budget);
+        return number_apart(uint_by_library(state, table, min, max, budget));
     }
     number_of(drawn_from(state, table, last + 1, budget, min))
 }

@@ -26,7 +26,8 @@ returns-2 c =
     let call = c .before .before in
     let came = call .before .before in
     let drawn = rw (came .engine-in .ensures) at (call .random-range-in .ensures) in
-    rw (c .number-from .ensures .0) (settled _ _ _ _ (came .before .before .if1 .left) _ _ _ _ _ (c .number-from .ensures .1) (ap numberOf drawn))
+    let known = came .before .before .if1 .left in
+    rw (c .number-from .ensures .0) (settled _ _ _ _ known _ _ _ _ _ (c .number-from .ensures .1) (ap numberOf drawn))
 
 pub random-range-by-library-spec : {M : Type 1} → statement M
 random-range-by-library-spec =

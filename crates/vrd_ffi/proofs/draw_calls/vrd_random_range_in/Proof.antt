@@ -20,7 +20,9 @@ number-of-requires : tie.Need-number-of-requires
 number-of-requires c κs = search needs
 
 returns-2 : tie.Need-returns-2
-returns-2 c = rw (c .number-of .ensures) (range-drawn-by _ _ _ _ _ _ (c .before .before .before .before .if1 .left) (c .before .drawn-from .ensures .0))
+returns-2 c =
+    let order = c .before .before .before .before .if1 .left in
+    rw (c .number-of .ensures) (range-drawn-by _ _ _ _ _ _ order (c .before .drawn-from .ensures .0))
 
 pub vrd-random-range-in-spec : {M : Type 1} → statement M
 vrd-random-range-in-spec =

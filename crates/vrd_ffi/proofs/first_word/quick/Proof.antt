@@ -66,7 +66,8 @@ returns-4 c =
     let low = word .before .before in
     let at = low .before in
     let kind = at .before .before .if3 .taken in
-    let moved = twister-ready _ _ _ kind _ (at .position .ensures) (low .if4 .left) _ (word .temper-word .ensures) (c .put-position .ensures) in
+    let position = at .position .ensures in
+    let moved = twister-ready _ _ _ kind _ position (low .if4 .left) _ (word .temper-word .ensures) (c .put-position .ensures) in
     quick-hit (omega (arith, kind)) moved (test .before .settled-by2 .ensures) (test .if5 .taken)
 
 returns-5 : tie.Need-returns-5

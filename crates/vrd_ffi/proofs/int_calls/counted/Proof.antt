@@ -17,7 +17,8 @@ returns : tie.Need-returns
 unfolding countedModulo
 returns c =
     let d = c .wrapping-add-signed in
-    rw (result-read w32 (d .result) (d .ok), d .ensures, arg-read (c .before .before .before .before .fits .min), c .before .before .if1 .taken)
+    let answered = c .before .before in
+    rw (result-read w32 (d .result) (d .ok), d .ensures, arg-read (answered .before .before .fits .min), answered .if1 .taken)
 
 returns-2 : tie.Need-returns-2
 unfolding countedModulo

@@ -50,8 +50,10 @@ returns-4 c =
     let span = far .before in
     let order = span .before in
     let f = order .before .fits in
-    let drawn = integer-drawn _ _ (f .min) (f .max) _ _ _ (test-read (f .min) (f .max) (order .if1 .left)) (span-read (f .min) (f .max) (span .span-of .ensures))
-    (omega (arith, far .if2 .left)) (omega arith) (first .drawn-from .ensures .0) (first .drawn-from .ensures .1) in
+    let ordered = test-read (f .min) (f .max) (order .if1 .left) in
+    let apart = span-read (f .min) (f .max) (span .span-of .ensures) in
+    let (draws, below) = first .drawn-from .ensures in
+    let drawn = integer-drawn _ _ (f .min) (f .max) _ _ _ ordered apart (omega (arith, far .if2 .left)) (omega arith) draws below in
     rw (c .counted .ensures, arg-read (f .min)) (rw (says-one _ (c .before .if4 .taken)) at drawn)
 
 number-of-requires : tie.Need-number-of-requires
@@ -67,8 +69,10 @@ returns-5 c =
     let span = far .before in
     let order = span .before in
     let f = order .before .fits in
-    let drawn = integer-drawn _ _ (f .min) (f .max) _ _ _ (test-read (f .min) (f .max) (order .if1 .left)) (span-read (f .min) (f .max) (span .span-of .ensures))
-    (omega (arith, far .if2 .left)) (omega arith) (first .drawn-from .ensures .0) (first .drawn-from .ensures .1) in
+    let ordered = test-read (f .min) (f .max) (order .if1 .left) in
+    let apart = span-read (f .min) (f .max) (span .span-of .ensures) in
+    let (draws, below) = first .drawn-from .ensures in
+    let drawn = integer-drawn _ _ (f .min) (f .max) _ _ _ ordered apart (omega (arith, far .if2 .left)) (omega arith) draws below in
     rw (c .counted2 .ensures, arg-read (f .min), c .before .number-of .ensures) drawn
 
 pub int-drawn-spec : {M : Type 1} → statement M

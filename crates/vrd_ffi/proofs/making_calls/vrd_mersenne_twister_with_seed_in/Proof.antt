@@ -13,7 +13,10 @@ begin-requires : tie.Need-begin-requires
 begin-requires c κs = search needs
 
 returns : tie.Need-returns
-returns c = rw (c .before .begin .ensures, c .before .before .before .engine-of .ensures, c .before .before .before .before .new-mersenne-twister-with-seed .ensures)
+returns c =
+    let done = c .before in
+    let read = done .before .before in
+    rw (done .begin .ensures, read .engine-of .ensures, read .before .new-mersenne-twister-with-seed .ensures)
 
 pub vrd-mersenne-twister-with-seed-in-spec : {M : Type 1} → statement M
 vrd-mersenne-twister-with-seed-in-spec =

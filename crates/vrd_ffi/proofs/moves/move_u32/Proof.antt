@@ -53,7 +53,8 @@ cast-result c = search needs
 returns-3 : tie.Need-returns-3
 returns-3 c =
     let wide = c .before .before in
-    half-moved _ _ _ _ _ (λ n. omega (arith, wide .before .before .before .pre, wide .before .if1 .left, wide .if2 .left)) (c .move-wide .ensures _)
+    let known = wide .before .before .before .pre in
+    half-moved _ _ _ _ _ (λ n. omega (arith, known, wide .before .if1 .left, wide .if2 .left)) (c .move-wide .ensures _)
 
 pub move-u32-spec : {M : Type 1} → statement M
 move-u32-spec =

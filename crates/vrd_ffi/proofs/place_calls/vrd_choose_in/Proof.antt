@@ -10,14 +10,20 @@ use Rattle.vrd_ffi.proofs.place_calls.vrd_choose_in.Tie as tie
 choose-by-library-requires : tie.Need-choose-by-library-requires
 choose-by-library-requires c κs = search needs
 
+choice-apart-requires : tie.Need-choice-apart-requires
+choice-apart-requires c κs = search needs
+
 returns : tie.Need-returns
-returns c = c .choose-by-library .ensures
+returns c = rw (c .choice-apart .ensures) (c .before .choose-by-library .ensures)
 
 choose-by-library-requires-2 : tie.Need-choose-by-library-requires-2
 choose-by-library-requires-2 c κs = search needs
 
+choice-apart-requires-2 : tie.Need-choice-apart-requires-2
+choice-apart-requires-2 c κs = search needs
+
 returns-2 : tie.Need-returns-2
-returns-2 c = c .choose-by-library2 .ensures
+returns-2 c = rw (c .choice-apart2 .ensures) (c .before .choose-by-library2 .ensures)
 
 cast-drawn-from : tie.Need-cast-drawn-from
 cast-drawn-from c = search needs
@@ -32,7 +38,8 @@ returns-3 : tie.Need-returns-3
 returns-3 c =
     let long = c .before .before .before .before .before in
     let drawn = c .before .before .drawn-from .ensures .0 in
-    rw (c .chosen .ensures) (choice-drawn _ _ _ _ _ (omega (arith, long .before .if1 .left)) (long .if2 .left) drawn _ (sym (says-one _ (c .before .if3 .taken))))
+    let number = sym (says-one _ (c .before .if3 .taken)) in
+    rw (c .chosen .ensures) (choice-drawn _ _ _ _ _ (omega (arith, long .before .if1 .left)) (long .if2 .left) drawn _ number)
 
 number-of-requires : tie.Need-number-of-requires
 number-of-requires c κs = search needs
@@ -44,15 +51,18 @@ returns-4 : tie.Need-returns-4
 returns-4 c =
     let long = c .before .before .before .before .before .before in
     let drawn = c .before .before .before .drawn-from .ensures .0 in
-    rw (c .chosen2 .ensures) (choice-drawn _ _ _ _ _ (omega (arith, long .before .if1 .left)) (long .if2 .left) drawn _ (c .before .number-of .ensures))
+    let number = c .before .number-of .ensures in
+    rw (c .chosen2 .ensures) (choice-drawn _ _ _ _ _ (omega (arith, long .before .if1 .left)) (long .if2 .left) drawn _ number)
 
 pub vrd-choose-in-spec : {M : Type 1} → statement M
 vrd-choose-in-spec =
     tie.close
     (tie.spec
     choose-by-library-requires
+    choice-apart-requires
     returns
     choose-by-library-requires-2
+    choice-apart-requires-2
     returns-2
     cast-drawn-from
     drawn-from-requires

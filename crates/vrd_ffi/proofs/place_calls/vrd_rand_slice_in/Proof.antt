@@ -8,20 +8,29 @@ use Rattle.vrd_ffi.proofs.place_calls.vrd_rand_slice_in.Tie as tie
 rand-slice-by-library-requires : tie.Need-rand-slice-by-library-requires
 rand-slice-by-library-requires c κs = search needs
 
+number-apart-requires : tie.Need-number-apart-requires
+number-apart-requires c κs = search needs
+
 returns : tie.Need-returns
-returns c = c .rand-slice-by-library .ensures
+returns c = rw (c .number-apart .ensures) (c .before .rand-slice-by-library .ensures)
 
 rand-slice-by-library-requires-2 : tie.Need-rand-slice-by-library-requires-2
 rand-slice-by-library-requires-2 c κs = search needs
 
+number-apart-requires-2 : tie.Need-number-apart-requires-2
+number-apart-requires-2 c κs = search needs
+
 returns-2 : tie.Need-returns-2
-returns-2 c = c .rand-slice-by-library2 .ensures
+returns-2 c = rw (c .number-apart2 .ensures) (c .before .rand-slice-by-library2 .ensures)
 
 rand-slice-by-library-requires-3 : tie.Need-rand-slice-by-library-requires-3
 rand-slice-by-library-requires-3 c κs = search needs
 
+number-apart-requires-3 : tie.Need-number-apart-requires-3
+number-apart-requires-3 c κs = search needs
+
 returns-3 : tie.Need-returns-3
-returns-3 c = c .rand-slice-by-library3 .ensures
+returns-3 c = rw (c .number-apart3 .ensures) (c .before .rand-slice-by-library3 .ensures)
 
 add-drawn-from : tie.Need-add-drawn-from
 add-drawn-from c = search needs
@@ -40,17 +49,21 @@ returns-4 c =
     let room = c .before .before .before .before in
     let some = room .before in
     let drawn = c .before .drawn-from .ensures .0 in
-    rw (c .number-of .ensures) (start-drawn _ _ _ _ _ _ (some .before .if1 .left) (omega (arith, some .if2 .left)) (room .if3 .left) drawn)
+    rw (c .number-of .ensures)
+    (start-drawn _ _ _ _ _ _ (some .before .if1 .left) (omega (arith, some .if2 .left)) (room .if3 .left) drawn)
 
 pub vrd-rand-slice-in-spec : {M : Type 1} → statement M
 vrd-rand-slice-in-spec =
     tie.close
     (tie.spec
     rand-slice-by-library-requires
+    number-apart-requires
     returns
     rand-slice-by-library-requires-2
+    number-apart-requires-2
     returns-2
     rand-slice-by-library-requires-3
+    number-apart-requires-3
     returns-3
     add-drawn-from
     cast-drawn-from

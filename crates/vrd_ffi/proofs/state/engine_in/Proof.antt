@@ -19,7 +19,9 @@ engine-with-requires c κs = search needs
 
 returns : tie.Need-returns
 unfolding backendIn
-returns c = rw (eq-eqb _ 0 (c .before .before .if1 .taken), c .engine-with .ensures, c .before .xoshiro-in .ensures, c .before .before .before .position .ensures)
+returns c =
+    let first = c .before .before in
+    rw (eq-eqb _ 0 (first .if1 .taken), c .engine-with .ensures, c .before .xoshiro-in .ensures, first .before .position .ensures)
 
 engine-with-requires-2 : tie.Need-engine-with-requires-2
 engine-with-requires-2 c κs = search needs

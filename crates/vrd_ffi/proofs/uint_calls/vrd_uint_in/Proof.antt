@@ -7,8 +7,11 @@ use Rattle.vrd_ffi.proofs.uint_calls.vrd_uint_in.Tie as tie
 uint-by-library-requires : tie.Need-uint-by-library-requires
 uint-by-library-requires c κs = search needs
 
+number-apart-requires : tie.Need-number-apart-requires
+number-apart-requires c κs = search needs
+
 returns : tie.Need-returns
-returns c = c .uint-by-library .ensures
+returns c = rw (c .number-apart .ensures) (c .before .uint-by-library .ensures)
 
 sub-last : tie.Need-sub-last
 sub-last c = search needs
@@ -16,8 +19,11 @@ sub-last c = search needs
 uint-by-library-requires-2 : tie.Need-uint-by-library-requires-2
 uint-by-library-requires-2 c κs = search needs
 
+number-apart-requires-2 : tie.Need-number-apart-requires-2
+number-apart-requires-2 c κs = search needs
+
 returns-2 : tie.Need-returns-2
-returns-2 c = c .uint-by-library2 .ensures
+returns-2 c = rw (c .number-apart2 .ensures) (c .before .uint-by-library2 .ensures)
 
 add-drawn-from : tie.Need-add-drawn-from
 add-drawn-from c = search needs
@@ -29,16 +35,20 @@ number-of-requires : tie.Need-number-of-requires
 number-of-requires c κs = search needs
 
 returns-3 : tie.Need-returns-3
-returns-3 c = rw (c .number-of .ensures) (uint-drawn-by _ _ _ _ _ _ (c .before .before .before .before .before .if1 .left) (c .before .drawn-from .ensures .0))
+returns-3 c =
+    let order = c .before .before .before .before .before .if1 .left in
+    rw (c .number-of .ensures) (uint-drawn-by _ _ _ _ _ _ order (c .before .drawn-from .ensures .0))
 
 pub vrd-uint-in-spec : {M : Type 1} → statement M
 vrd-uint-in-spec =
     tie.close
     (tie.spec
     uint-by-library-requires
+    number-apart-requires
     returns
     sub-last
     uint-by-library-requires-2
+    number-apart-requires-2
     returns-2
     add-drawn-from
     drawn-from-requires

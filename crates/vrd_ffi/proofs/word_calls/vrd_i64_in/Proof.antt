@@ -22,7 +22,8 @@ signed-u64-requires c κs = search needs
 returns-2 : tie.Need-returns-2
 returns-2 c =
     let d = c .signed-u64 in
-    rw (result-read w64 (d .result) (d .ok), d .ensures) (i64-moved _ _ (c .before .before .before .before .if1 .left) (c .before .move-u64 .ensures))
+    let move = c .before in
+    rw (result-read w64 (d .result) (d .ok), d .ensures) (i64-moved _ _ (move .before .before .before .if1 .left) (move .move-u64 .ensures))
 
 pub vrd-i64-in-spec : {M : Type 1} → statement M
 vrd-i64-in-spec =
