@@ -29,7 +29,7 @@ pub record Total : Type 0 where
 
 -- one draw below r
 abbrev pub oneDraw : (r budget : ℕ) → Random → Answer
-oneDraw r budget g = answers.answered g (boundedBy (wordsOf g) r budget)
+oneDraw r budget g = answers.answerFrom g (boundedBy (wordsOf g) r budget)
 
 -- a draw more
 abbrev pub plus : Total → Answer → Total

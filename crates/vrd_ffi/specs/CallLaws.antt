@@ -34,7 +34,7 @@ use Rattle.vrd_ffi.specs.State.{kindIn, engineFrom, generatorIn, stateWi
 
 module _ (s t : List ℕ) (k : kindIn s ≤ 3) (u s′ : List ℕ) where
   pub list-shuffled : (list : List ℕ) (budget : ℕ) (a : EngineAnswer) (found : List ℕ)
-      → library.joinedAnswer a u ≡ library.answered (generatorIn s t) (shuffleBy (wordsOf (generatorIn s t)) (length list) budget)
+      → library.joinedAnswer a u ≡ library.answerFrom (generatorIn s t) (shuffleBy (wordsOf (generatorIn s t)) (length list) budget)
       → found ≡ shuffled (wordsOf (generatorIn s t)) list budget → s′ ≡ stateAfter (a .refusal) (a .next) s
       → VrdShufflePromise s t list budget (number (a .value) (a .used) (a .refusal)) s′ u found
   list-shuffled list budget a found h q w =

@@ -12,7 +12,8 @@ use mathlib.Core.List.{List}
 use mathlib.Core.Path.{_≡_, refl, sym, _∙_, ap}
 use mir.Syntax.{w32}
 use mir.Val.{SFits}
-use Rattle.words.specs.Draw.{Words, Outcome, boundedBy}
+use Rattle.words.specs.declared.outcome.Outcome.{Outcome}
+use Rattle.words.specs.Draw.{Words, boundedBy}
 use Rattle.words.specs.Refusal as refusal
 use Rattle.signed.specs.GapLaws.{gap-fits}
 use Rattle.signed.specs.Signed.{wrappedSum, gap}
@@ -20,12 +21,13 @@ use Rattle.signed.specs.SignedLaws.{sum-exact}
 use Rattle.random.specs.Generator.{wordsOf}
 use Rattle.random.specs.declared.backend.Random.{Random}
 use Rattle.bounded.specs.Answers as library
-use Rattle.bounded.specs.Budgeted.{raised-answered, raised-refused}
+use Rattle.words.specs.OutcomeLaws.{raised-answered, raised-refused}
+use Rattle.words.specs.Outcomes.{raised, workedOn}
 use Rattle.bounded.specs.RangeLaws.{range-drawn}
-use Rattle.bounded.specs.Ranges.{raised, rangeBy, charBy}
-use Rattle.spans.specs.IntAnswers.{intAnswered}
+use Rattle.bounded.specs.Ranges.{rangeBy, charBy}
+use Rattle.spans.specs.IntAnswers.{intAnswerFrom}
 use Rattle.spans.specs.SpanLaws.{span-drawn, uint-drawn, int-drawn}
-use Rattle.spans.specs.Spans.{spanBy, uintBy, intBy, countedFrom}
+use Rattle.spans.specs.Spans.{spanBy, uintBy, intBy, countedFrom, signedBy}
 use Rattle.lists.specs.CheckLaws as checks
 use Rattle.lists.specs.CheckedDraws.{unless-passed}
 use Rattle.lists.specs.Checks.{listRefusal, sliceRefusal}
@@ -62,7 +64,7 @@ module _ (s t : List ℕ) (budget p : ℕ) {s′ u : List ℕ} where
       → told (unpacked p) s′ u ≡ atBoundary s t (number 0 0 refusal.kind) (drawnBy by)
   drawn-as r least d by e =
       d ∙ same-reply s t (number 0 0 refusal.kind) (drawnBy (one r budget least)) (drawnBy by)
-      (ap (λ (o : Outcome). numberOf (library.answered (generatorIn s t) o)) e)
+      (ap (λ (o : Outcome). numberOf (library.answerFrom (generatorIn s t) o)) e)
 
   pub bounded-drawn : (r : ℕ) → Draws s t r budget 0 p s′ u
       → told (unpacked p) s′ u ≡ atBoundary s t (number 0 0 refusal.kind) (drawnBy (λ w. boundedBy w r budget))
@@ -88,8 +90,8 @@ module _ (s t : List ℕ) (budget p : ℕ) {s′ u : List ℕ} where
   -- ---- of a list
 
   pub start-drawn : (n window : ℕ) → n ≤ listLimit → 0 < window → window ≤ n → Draws s t (n - window + 1) budget 0 p s′ u
-      → told (unpacked p) s′ u ≡ atBoundary s t (number 0 0 refusal.kind) (λ g. startOf (slicing.startedBy g (slicing.sliceBy (wordsOf g) n window budget)))
-  unfolding slicing.startedBy slicing.sliceBy library.answered
+      → told (unpacked p) s′ u ≡ atBoundary s t (number 0 0 refusal.kind) (λ g. startOf (slicing.startFrom g (slicing.startOf (slicing.sliceBy (wordsOf g) n window budget))))
+  unfolding slicing.startFrom slicing.startOf slicing.sliceBy library.answerFrom
   start-drawn n window h some room d =
       let w = wordsOf (generatorIn s t) in
       let allowed = checks.slice-only n window (checks.allowed (omega arith) h some room) in
@@ -98,8 +100,8 @@ module _ (s t : List ℕ) (budget p : ℕ) {s′ u : List ℕ} where
 
   pub choice-drawn : (list : List ℕ) → 0 < length list → length list ≤ listLimit → Draws s t (length list) budget 0 p s′ u → (a : Number) → a ≡ unpacked p
       → told (entryOf list a) s′ u
-      ≡ atBoundary s t (choice 0 0 0 refusal.kind) (λ g. choiceOf (choosing.chosenBy g (choosing.chooseBy (wordsOf g) list budget)))
-  unfolding choosing.chosenBy choosing.chooseBy choosing.entryOf choosing.placeBy library.answered
+      ≡ atBoundary s t (choice 0 0 0 refusal.kind) (λ g. choiceOf (choosing.choiceFrom g (choosing.chooseBy (wordsOf g) list budget)))
+  unfolding choosing.choiceFrom choosing.chooseBy choosing.entryOf choosing.placeBy workedOn library.answerFrom
   choice-drawn list some h d a e =
       let g = generatorIn s t in
       let w = wordsOf g in
@@ -109,8 +111,8 @@ module _ (s t : List ℕ) (budget p : ℕ) {s′ u : List ℕ} where
       ap (λ (x : Number). told (entryOf list x) s′ u) e
       ∙ told-formed s t (number 0 0 refusal.kind) (drawnBy (one n budget 0)) (entryOf list) d
       ∙ same-reply s t (choice 0 0 0 refusal.kind) (λ g. formed (entryOf list) (drawnBy (one n budget 0) g))
-      (λ g. choiceOf (choosing.chosenBy g (choosing.chooseBy (wordsOf g) list budget)))
-      (ap (λ (o : Outcome). formed (entryOf list) (numberOf (library.answered g o))) same)
+      (λ g. choiceOf (choosing.choiceFrom g (choosing.chooseBy (wordsOf g) list budget)))
+      (ap (λ (o : Outcome). formed (entryOf list) (numberOf (library.answerFrom g o))) same)
 
 -- where it is answered, the number drawn is below n
 pub number-below : (n p : ℕ) (a : Number) → a ≡ unpacked p → Below n 0 p → a .refusal ≡ 0 → a .value < n
@@ -135,7 +137,7 @@ counted-exact {min} {max} a f f′ small = go (eqb (a .refusal) 0) refl
 module _ (s t : List ℕ) {min max : ℤ} (f : SFits w32 min) (f′ : SFits w32 max) (last budget p : ℕ) where
   pub integer-drawn : ltZ max min ≡ false → last ≡ gap min max → 0 < last → last < 2 ^ 32 → {s′ u : List ℕ} → Draws s t (last + 1) budget 0 p s′ u → Below (last + 1) 0 p
       → told (countedModulo min (unpacked p)) s′ u ≡ atBoundary s t (integer (pos 0) 0 refusal.kind) (countedBy (λ w. intBy w min max budget))
-  unfolding intAnswered countedFrom library.answered
+  unfolding intAnswerFrom countedFrom signedBy workedOn library.answerFrom
   integer-drawn order far wide small {s′} {u} d below =
       let g = generatorIn s t in
       let w = wordsOf g in
@@ -144,4 +146,4 @@ module _ (s t : List ℕ) {min max : ℤ} (f : SFits w32 min) (f′ : SFits w32 
       ap (λ (a : _). told a s′ u) (counted-exact (unpacked p) f f′ (λ z. let b = below z in (omega arith, rw (sym far) (omega arith))))
       ∙ told-formed s t (number 0 0 refusal.kind) (drawnBy (one (last + 1) budget 0)) (counted min) d
       ∙ same-reply s t (integer (pos 0) 0 refusal.kind) (λ g. formed (counted min) (drawnBy (one (last + 1) budget 0) g)) (countedBy (λ w. intBy w min max budget))
-      (ap (λ (o : Outcome). formed (counted min) (numberOf (library.answered g o))) same ∙ ap (λ (o : _). integerOf (intAnswered g o)) (sym (int-drawn w min max budget order)))
+      (ap (λ (o : Outcome). formed (counted min) (numberOf (library.answerFrom g o))) same ∙ ap (λ (o : _). integerOf (intAnswerFrom g o)) (sym (int-drawn w min max budget order)))

@@ -6,7 +6,8 @@ use lib.Ieee.{Float, ofBits, binary32, binary64}
 use mathlib.Core.Bool.{Bool, cond}
 use mathlib.Core.List.{List}
 use mathlib.Core.Path.{_≡_}
-use Rattle.words.specs.Draw.{Words, Outcome}
+use Rattle.words.specs.declared.outcome.Outcome.{Outcome}
+use Rattle.words.specs.Draw.{Words}
 use Rattle.words.specs.Refusal as refusal
 use Rattle.random.specs.Generator.{wordsOf}
 use Rattle.random.specs.Lent.{engineIn, tableIn}
@@ -18,7 +19,7 @@ use Rattle.random.specs.declared.by_value.Word64.{Word64}
 use Rattle.bounded.specs.Answers as answers
 use Rattle.bounded.specs.declared.answers.Answer.{Answer}
 use Rattle.spans.specs.IntAnswers as spans
-use Rattle.spans.specs.Spans.{IntOutcome}
+use Rattle.spans.specs.declared.counting.IntOutcome.{IntOutcome}
 use Rattle.spans.specs.declared.ints.IntAnswer.{IntAnswer}
 use Rattle.lists.specs.declared.places.Chosen.{Chosen}
 use Rattle.lists.specs.declared.windows.SliceStart.{SliceStart}
@@ -86,10 +87,10 @@ startOf a = reply (a .refusal) (number (a .start) (a .used) (a .refusal)) (a .ne
 
 -- of a draw's outcome over the words of the generator
 abbrev pub drawnBy : (Words → Outcome) → Random → Reply Number
-drawnBy by g = numberOf (answers.answered g (by (wordsOf g)))
+drawnBy by g = numberOf (answers.answerFrom g (by (wordsOf g)))
 
 abbrev pub countedBy : (Words → IntOutcome) → Random → Reply Integer
-countedBy by g = integerOf (spans.intAnswered g (by (wordsOf g)))
+countedBy by g = integerOf (spans.intAnswerFrom g (by (wordsOf g)))
 
 -- ---- floats
 

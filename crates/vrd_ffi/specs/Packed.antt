@@ -7,7 +7,7 @@ use mathlib.Core.Path.{_≡_}
 use lib.Dec.{ltb, eqb}
 use Rattle.words.specs.Draw.{boundedBy}
 use Rattle.words.specs.Refusal as refusal
-use Rattle.bounded.specs.Ranges.{raised}
+use Rattle.words.specs.Outcomes.{raised}
 use Rattle.vrd_ffi.specs.declared.answers.Number.{Number}
 use Rattle.vrd_ffi.specs.Answers.{told, atBoundary}
 use Rattle.vrd_ffi.specs.Handed.{number, drawnBy}

@@ -8,7 +8,8 @@ use mathlib.Core.Bool.{Bool, true, false, cond}
 use mathlib.Core.List.{List}
 use mathlib.Core.Path.{_≡_, refl, sym, _∙_, ap}
 use Rattle.words.specs.AnswerIsFirst.{first-is-answer}
-use Rattle.words.specs.Draw.{Words, Outcome, quotient, refused, boundedBy}
+use Rattle.words.specs.declared.outcome.Outcome.{Outcome}
+use Rattle.words.specs.Draw.{Words, quotient, refused, boundedBy}
 use Rattle.words.specs.Draw as draw
 use Rattle.words.specs.GoodWord.{Passes, good-passes}
 use Rattle.words.specs.OneOutcome.{Bounded, zero-range, answers, out-of-budget, bounded-is}
@@ -19,8 +20,8 @@ use Rattle.random.specs.Lent.{joinedWith}
 use Rattle.random.specs.declared.backend.Random.{Random}
 use Rattle.random.specs.declared.engine.Engine.{Engine}
 use Rattle.bounded.specs.Answers as library
-use Rattle.bounded.specs.Budgeted.{raised-answered, raised-refused}
-use Rattle.bounded.specs.Ranges.{raised}
+use Rattle.words.specs.OutcomeLaws.{raised-answered, raised-refused}
+use Rattle.words.specs.Outcomes.{raised}
 use Rattle.bounded.specs.declared.answers.Answer.{Answer}
 use Rattle.bounded.specs.declared.answers.EngineAnswer.{EngineAnswer}
 use Rattle.vrd_ffi.specs.declared.answers.Number.{Number}
@@ -115,10 +116,10 @@ module _ (s t : List ℕ) (r least : ℕ) (room : least + r ≤ 2 ^ 32) where
   quick-below q s′ h z = rw (says-one (least + q) (fits q s′ h)) (omega (arith, h .settled .small))
 
 module _ (s t : List ℕ) (r budget least : ℕ) (room : least + r ≤ 2 ^ 32) where
-  pub library-draws : kindIn s ≤ 3 → (a : EngineAnswer) (u s′ : List ℕ) → library.joinedAnswer a u ≡ library.answered (generatorIn s t) (boundedBy (wordsOf (generatorIn s t)) r budget)
+  pub library-draws : kindIn s ≤ 3 → (a : EngineAnswer) (u s′ : List ℕ) → library.joinedAnswer a u ≡ library.answerFrom (generatorIn s t) (boundedBy (wordsOf (generatorIn s t)) r budget)
       → (a .refusal ≡ 0 → a .value < r) → s′ ≡ stateAfter (a .refusal) (a .next) s
       → Draws s t r budget least (packed (a .refusal) (a .value) (a .used) least) s′ u
-  unfolding library.answered
+  unfolding library.answerFrom
   library-draws k a u s′ h small w =
       let g = generatorIn s t in
       let o = boundedBy (wordsOf g) r budget in
@@ -130,9 +131,9 @@ module _ (s t : List ℕ) (r budget least : ℕ) (room : least + r ≤ 2 ^ 32) w
       settled s t (number 0 0 refusal.kind) (drawnBy (λ w. raised least (boundedBy w r budget))) k (a .refusal) _ (a .next) u s′ w
       (let (same, used) = raised-keeps least o in rw (n, v, m, next, whole, same, used))
 
-  pub library-below : (a : EngineAnswer) (u : List ℕ) → library.joinedAnswer a u ≡ library.answered (generatorIn s t) (boundedBy (wordsOf (generatorIn s t)) r budget)
+  pub library-below : (a : EngineAnswer) (u : List ℕ) → library.joinedAnswer a u ≡ library.answerFrom (generatorIn s t) (boundedBy (wordsOf (generatorIn s t)) r budget)
       → (a .refusal ≡ 0 → a .value < r) → Below r least (packed (a .refusal) (a .value) (a .used) least)
-  unfolding library.answered
+  unfolding library.answerFrom
   library-below a u h small =
       let g = generatorIn s t in
       let o = boundedBy (wordsOf g) r budget in
@@ -153,10 +154,10 @@ module _ (s t : List ℕ) (r budget least : ℕ) (room : least + r ≤ 2 ^ 32) w
       ap (raised least) (found ∙ ap (λ (v : ℕ). draw.gives v 1) drawn) ∙ raised-answered least (draw.gives q 1) refl
 
   pub quick-draws : (q : ℕ) (s′ : List ℕ) → 0 < budget → Hit s t r q s′ → Draws s t r budget least (least + q) s′ t
-  unfolding library.answered randOf later stateAfter
+  unfolding library.answerFrom randOf later stateAfter
   quick-draws q s′ some h =
       let g = generatorIn s t in
       ap (λ (a : Number). told a s′ t) (says-one (least + q) (fits s t r least room q s′ h))
       ∙ ap (λ (x : Told ℕ). told (number (least + q) 1 0) (x .state) (x .table)) (h .moved)
-      ∙ ap (λ (o : Outcome). written s (numberOf (library.answered g o))) (sym (settles-draw q s′ some h))
+      ∙ ap (λ (o : Outcome). written s (numberOf (library.answerFrom g o))) (sym (settles-draw q s′ some h))
       ∙ known-kind s t (number 0 0 refusal.kind) (drawnBy (λ w. raised least (boundedBy w r budget))) (h .known)

@@ -98,12 +98,12 @@ VrdRangePromise = VrdIntPromise
 
 abbrev pub VrdChoosePromise : List ℕ → List ℕ → (list : List ℕ) (budget : ℕ) → Choice → List ℕ → List ℕ → Type 0
 VrdChoosePromise s t list budget a s′ t′ =
-    told a s′ t′ ≡ atBoundary s t (choice 0 0 0 refusal.kind) (λ g. choiceOf (choosing.chosenBy g (choosing.chooseBy (wordsOf g) list budget)))
+    told a s′ t′ ≡ atBoundary s t (choice 0 0 0 refusal.kind) (λ g. choiceOf (choosing.choiceFrom g (choosing.chooseBy (wordsOf g) list budget)))
 
 abbrev pub VrdRandSlicePromise : List ℕ → List ℕ → (list : List ℕ) (window budget : ℕ) → Number → List ℕ → List ℕ → Type 0
 VrdRandSlicePromise s t list window budget a s′ t′ =
     told a s′ t′
-    ≡ atBoundary s t (number 0 0 refusal.kind) (λ g. startOf (slicing.startedBy g (slicing.sliceBy (wordsOf g) (length list) window budget)))
+    ≡ atBoundary s t (number 0 0 refusal.kind) (λ g. startOf (slicing.startFrom g (slicing.startOf (slicing.sliceBy (wordsOf g) (length list) window budget))))
 
 -- the list too is what the call leaves
 abbrev pub VrdShufflePromise : List ℕ → List ℕ → (list : List ℕ) (budget : ℕ) → Number → List ℕ → List ℕ → (list′ : List ℕ) → Type 0
