@@ -37,9 +37,10 @@ returns-2 c =
     let room = known .before .before .pre in
     let drawn = rw (came .engine-in .ensures) at (call .bounded-in .ensures .0) in
     let small = call .bounded-in .ensures .1 in
-    rw (c .pack .ensures)
-    (library-draws _ _ _ _ _ room (known .if1 .left) (call .bounded-in .result) _ _ drawn small (settled .settle .ensures),
-    library-below _ _ _ _ _ room (call .bounded-in .result) _ drawn small)
+    rw (c .pack .ensures) (
+      library-draws _ _ _ _ _ room (known .if1 .left) (call .bounded-in .result) _ _ drawn small (settled .settle .ensures),
+      library-below _ _ _ _ _ room (call .bounded-in .result) _ drawn small,
+    )
 
 pub by-library-spec : {M : Type 1} → statement M
 by-library-spec =
