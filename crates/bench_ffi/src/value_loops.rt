@@ -84,7 +84,8 @@ pub extern "C" fn bench_draws_by_value(
     budget: u32,
     n: u64,
 ) -> Sums
-    ensures { λ a. ⌜ BenchDrawsByValuePromise (now (state .entry)) (now (table .entry)) r budget n a (now (state .exit)) (now (table .exit)) ⌝ }
+    ensures { λ a. ⌜ BenchDrawsByValuePromise (now (state .entry)) (now (table .entry)) r budget n a
+        (now (state .exit)) (now (table .exit)) ⌝ }
 {
     if state[0] > 3 {
         return Sums {
