@@ -7,12 +7,12 @@ use native.Mathlib.Omega.{arith}
 use borrow.Author.Tests.{eq-eqb, ne-eqb}
 use lib.Ieee.{Float}
 use Rattle.floats.specs.Chances.{isChance, chanceRefusal, coinOf}
-use Rattle.floats.specs.IntervalLaws.{uniform-taken, uniform-refused}
-use Rattle.floats.specs.Intervals.{intervalRefusal, numberIn, uniformOf}
+use Rattle.floats.specs.IntervalLaws.{uniform-refused}
+use Rattle.floats.specs.Intervals.{intervalRefusal, uniformOf}
 use Rattle.floats.specs.Units.{floatOf, doubleOf}
 use Rattle.floats.specs.declared.intervals.Interval.{Interval}
 use Rattle.floats.specs.declared.intervals.Uniform.{Uniform}
-use Rattle.floats.specs.declared.intervals.Uniform.the-variants.{Number, Refused}
+use Rattle.floats.specs.declared.intervals.Uniform.the-variants.{Refused}
 use Rattle.words.specs.Refusal as refusal
 use Rattle.random.specs.declared.backend.Random.{Random}
 use Rattle.random.specs.Generator.{step, wordOf, word64Of, steps64, widthOf, later, randOf, u64Of}
@@ -70,10 +70,10 @@ module _ (g : Random) (p : Float) where
 module _ (g : Random) (i : Interval) where
   -- the number of the 64-bit word, where the interval is taken
   pub spread-taken : intervalRefusal i ≡ 0 → (r : EngineWord64) (t : List ℕ) → joinedWord64 r t ≡ u64Of g
-      → record { answer = Number (numberIn i (r .word)); next = joinedWith (r .next) t } ≡ spreadFrom g i
+      → record { answer = uniformOf i (r .word); next = joinedWith (r .next) t } ≡ spreadFrom g i
   unfolding spreadFrom u64Of
   spread-taken z r t h =
-      rw (uniform-taken i (word64Of g) z, eq-eqb (intervalRefusal i) 0 z, ap (λ (d : Word64). d .word) h, ap (λ (d : Word64). d .next) h)
+      rw (eq-eqb (intervalRefusal i) 0 z, ap (λ (d : Word64). d .word) h, ap (λ (d : Word64). d .next) h)
 
   -- and where it is refused, nothing drawn
   pub spread-refused : (intervalRefusal i ≡ 0 → ⊥) → record { answer = Refused (intervalRefusal i); next = g } ≡ spreadFrom g i
