@@ -5,14 +5,17 @@ use mathlib.Core.Path.{_≡_, refl, sym, _∙_, ap}
 use Prim.Native.Nat.{ℕ}
 use native.Mathlib.Omega.{arith}
 use borrow.Author.Tests.{eq-eqb, ne-eqb}
-use lib.Ieee.{Float}
+use lib.Dec.{T}
+use lib.IntN.{ℤ}
+use lib.Ieee.{Float, fin, binary64, fits}
 use Rattle.floats.specs.Chances.{isChance, chanceRefusal, coinOf}
 use Rattle.floats.specs.IntervalLaws.{uniform-refused}
+use Rattle.floats.specs.NoMinusZero.{answer-never-minus-zero}
 use Rattle.floats.specs.Intervals.{intervalRefusal, uniformOf}
 use Rattle.floats.specs.Units.{floatOf, doubleOf}
 use Rattle.floats.specs.declared.intervals.Interval.{Interval}
 use Rattle.floats.specs.declared.intervals.Uniform.{Uniform}
-use Rattle.floats.specs.declared.intervals.Uniform.the-variants.{Refused}
+use Rattle.floats.specs.declared.intervals.Uniform.the-variants.{Number, Refused}
 use Rattle.words.specs.Refusal as refusal
 use Rattle.random.specs.declared.backend.Random.{Random}
 use Rattle.random.specs.Generator.{step, wordOf, word64Of, steps64, widthOf, later, randOf, u64Of}
@@ -27,6 +30,8 @@ use Rattle.random.specs.declared.engine.EngineWord64.{EngineWord64}
 use Rattle.float_draws.specs.Coins.{flipOf, flipFrom}
 use Rattle.float_draws.specs.Spreads.{spreadFrom}
 use Rattle.float_draws.specs.Units.{floatFrom, doubleFrom}
+use Rattle.float_draws.specs.Promises.{UniformPromise}
+use Rattle.float_draws.specs.declared.intervals.Spread.{Spread}
 
 -- ---- over a lent table: a word that was drawn, its engine and the table that it left
 
@@ -79,6 +84,13 @@ module _ (g : Random) (i : Interval) where
   pub spread-refused : (intervalRefusal i ≡ 0 → ⊥) → record { answer = Refused (intervalRefusal i); next = g } ≡ spreadFrom g i
   unfolding spreadFrom
   spread-refused z = rw (uniform-refused i (word64Of g) z, ne-eqb (intervalRefusal i) 0 z, later-none g)
+
+-- ---- `uniform` never gives -0.0: low is a float of the format, as every f64 is
+
+pub uniform-never-minus-zero : (g : Random) (i : Interval) {r : Spread} → UniformPromise g i r → T (fits binary64 (i .low))
+    → (e : ℤ) → r .answer ≡ Number (fin true 0 e) → ⊥
+unfolding spreadFrom
+uniform-never-minus-zero g i p v e h = answer-never-minus-zero i (word64Of g) v e (sym (ap (λ (s : Spread). s .answer) p) ∙ h)
 
 -- ---- a refusal leaves the generator as it was
 

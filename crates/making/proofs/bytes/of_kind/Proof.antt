@@ -26,7 +26,8 @@ from-pcg32-requires c κs = search needs
 returns : tie.Need-returns
 returns c =
     let copied = c .before .before .before in
-    rw (c .from-pcg32 .ensures, c .before .from-seed .ensures, copied .copy .ensures) (kind-pcg32 _ _ (copied .before .before .if1 .taken))
+    rw (c .from-pcg32 .ensures, c .before .from-seed .ensures, copied .copy .ensures)
+    (kind-pcg32 _ _ (copied .before .before .if1 .taken))
 
 slice-aggregate-copy-2 : tie.Need-slice-aggregate-copy-2
 slice-aggregate-copy-2 c = search needs
@@ -46,7 +47,8 @@ from-xoshiro-requires c κs = search needs
 returns-2 : tie.Need-returns-2
 returns-2 c =
     let test = c .before .before in
-    rw (c .from-xoshiro .ensures, c .before .from-seed2 .ensures, test .before .before .copy2 .ensures) (kind-xoshiro _ _ (test .if2 .taken))
+    rw (c .from-xoshiro .ensures, c .before .from-seed2 .ensures, test .before .before .copy2 .ensures)
+    (kind-xoshiro _ _ (test .if2 .taken))
 
 from-seed-requires-3 : tie.Need-from-seed-requires-3
 from-seed-requires-3 c κs = search needs
