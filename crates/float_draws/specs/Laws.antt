@@ -5,10 +5,13 @@ use mathlib.Core.Path.{_≡_, refl, sym, _∙_, ap}
 use Prim.Native.Nat.{ℕ}
 use native.Mathlib.Omega.{arith}
 use borrow.Author.Tests.{eq-eqb, ne-eqb}
-use lib.Ieee.{Float}
+use lib.Dec.{T}
+use lib.IntN.{ℤ}
+use lib.Ieee.{Float, fin, binary64, fits}
 use Rattle.floats.specs.Chances.{isChance, chanceRefusal, coinOf}
-use Rattle.floats.specs.IntervalLaws.{uniform-taken, uniform-refused}
-use Rattle.floats.specs.Intervals.{intervalRefusal, numberIn, uniformOf}
+use Rattle.floats.specs.IntervalLaws.{uniform-refused}
+use Rattle.floats.specs.NoMinusZero.{answer-never-minus-zero}
+use Rattle.floats.specs.Intervals.{intervalRefusal, uniformOf}
 use Rattle.floats.specs.Units.{floatOf, doubleOf}
 use Rattle.floats.specs.declared.intervals.Interval.{Interval}
 use Rattle.floats.specs.declared.intervals.Uniform.{Uniform}
@@ -27,6 +30,8 @@ use Rattle.random.specs.declared.engine.EngineWord64.{EngineWord64}
 use Rattle.float_draws.specs.Coins.{flipOf, flipFrom}
 use Rattle.float_draws.specs.Spreads.{spreadFrom}
 use Rattle.float_draws.specs.Units.{floatFrom, doubleFrom}
+use Rattle.float_draws.specs.Promises.{UniformPromise}
+use Rattle.float_draws.specs.declared.intervals.Spread.{Spread}
 
 -- ---- over a lent table: a word that was drawn, its engine and the table that it left
 
@@ -70,15 +75,22 @@ module _ (g : Random) (p : Float) where
 module _ (g : Random) (i : Interval) where
   -- the number of the 64-bit word, where the interval is taken
   pub spread-taken : intervalRefusal i ≡ 0 → (r : EngineWord64) (t : List ℕ) → joinedWord64 r t ≡ u64Of g
-      → record { answer = Number (numberIn i (r .word)); next = joinedWith (r .next) t } ≡ spreadFrom g i
+      → record { answer = uniformOf i (r .word); next = joinedWith (r .next) t } ≡ spreadFrom g i
   unfolding spreadFrom u64Of
   spread-taken z r t h =
-      rw (uniform-taken i (word64Of g) z, eq-eqb (intervalRefusal i) 0 z, ap (λ (d : Word64). d .word) h, ap (λ (d : Word64). d .next) h)
+      rw (eq-eqb (intervalRefusal i) 0 z, ap (λ (d : Word64). d .word) h, ap (λ (d : Word64). d .next) h)
 
   -- and where it is refused, nothing drawn
   pub spread-refused : (intervalRefusal i ≡ 0 → ⊥) → record { answer = Refused (intervalRefusal i); next = g } ≡ spreadFrom g i
   unfolding spreadFrom
   spread-refused z = rw (uniform-refused i (word64Of g) z, ne-eqb (intervalRefusal i) 0 z, later-none g)
+
+-- ---- `uniform` never gives -0.0: low is a float of the format, as every f64 is
+
+pub uniform-never-minus-zero : (g : Random) (i : Interval) {r : Spread} → UniformPromise g i r → T (fits binary64 (i .low))
+    → (e : ℤ) → r .answer ≡ Number (fin true 0 e) → ⊥
+unfolding spreadFrom
+uniform-never-minus-zero g i p v e h = answer-never-minus-zero i (word64Of g) v e (sym (ap (λ (s : Spread). s .answer) p) ∙ h)
 
 -- ---- a refusal leaves the generator as it was
 

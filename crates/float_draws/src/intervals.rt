@@ -28,11 +28,8 @@ pub fn uniform_in(e: Engine, mt: &mut [u32; 624], i: Interval) -> EngineSpread
     if refused == refusal::ANSWERED {
         let d = random::next_u64(e, mt);
         let next = d.next;
-        let number = floats::number_in(i, d.word);
-        return EngineSpread {
-            answer: Uniform::Number(number),
-            next,
-        };
+        let answer = floats::uniform_of(i, d.word);
+        return EngineSpread { answer, next };
     }
     EngineSpread {
         answer: Uniform::Refused(refused),

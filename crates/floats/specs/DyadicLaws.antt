@@ -18,7 +18,8 @@ use Rattle.floats.specs.Units.{dyadic}
 
 -- ---- halving
 
-parity : (n : ℕ) → (n % 2 ≡ 0) ⊎ (n % 2 ≡ 1)
+-- a number is even or odd
+pub parity : (n : ℕ) → (n % 2 ≡ 0) ⊎ (n % 2 ≡ 1)
 parity n = ⊎-elim inl (λ more. inr (omega arith)) (eq-zero-or-pos (n % 2))
 
 half-lt : (n k : ℕ) → n < 2 ^ suc k → n / 2 < 2 ^ k

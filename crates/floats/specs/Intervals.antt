@@ -1,5 +1,6 @@
 -- What `uniform` answers (document 01, "Draws" and "When the unit says no"). `sub`, `mul` and `add` are IEEE 754's: each works out its
--- result exactly and rounds it once, to nearest, ties to even. `le` is its order, in which -0 and 0 are level.
+-- result exactly and rounds it once, to nearest, ties to even (`Rounding` says what that is). `le` is its order, in which -0 and 0 are
+-- level.
 use Prim.Native.Nat.{ℕ, zero, suc}
 use mathlib.Core.Bool.{Bool, not, _&&_, cond}
 use lib.Ieee.{Float, binary64, add, sub, mul, le}

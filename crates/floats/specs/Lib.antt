@@ -10,6 +10,13 @@ pub mod Chances
 pub mod ChanceLaws
 pub mod Intervals
 pub mod IntervalLaws
+pub mod SignLaws
+pub mod UnitsApart
+pub mod NoMinusZero
+pub mod Rounding
+pub mod ClosestLaws
+pub mod RoundingLaws
+pub mod OperationLaws
 pub mod Bench
 pub mod Promises
 pub mod PromisesLaws

@@ -4,7 +4,7 @@ use mathlib.Core.Path.{_≡_}
 use Prim.Native.Nat.{ℕ}
 use lib.Ieee.{Float}
 use Rattle.floats.specs.Chances.{chanceRefusal, coinOf, isChance}
-use Rattle.floats.specs.Intervals.{endsAreFinite, intervalRefusal, isOutOfOrder, numberIn, uniformOf}
+use Rattle.floats.specs.Intervals.{endsAreFinite, intervalRefusal, isOutOfOrder, uniformOf}
 use Rattle.floats.specs.Units.{doubleOf, floatOf}
 use Rattle.floats.specs.declared.chances.Coin.{Coin}
 use Rattle.floats.specs.declared.intervals.Interval.{Interval}
@@ -34,11 +34,7 @@ IsOutOfOrderPromise i r = r ≡ isOutOfOrder i
 abbrev pub IntervalRefusalPromise : Interval → ℕ → Type 0
 IntervalRefusalPromise i r = r ≡ intervalRefusal i
 
--- `number_in`: low + (high - low) * double, each operation rounded once
-abbrev pub NumberInPromise : Interval → ℕ → Float → Type 0
-NumberInPromise i word r = r ≡ numberIn i word
-
--- `uniform_of`: that number, or the refusal's
+-- `uniform_of`: low + (high - low) * double, each operation rounded once, or the refusal's number
 abbrev pub UniformOfPromise : Interval → ℕ → Uniform → Type 0
 UniformOfPromise i word r = r ≡ uniformOf i word
 

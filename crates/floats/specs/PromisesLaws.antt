@@ -4,7 +4,7 @@ use mathlib.Core.Path.{_≡_, sym, _∙_}
 use Prim.Native.Nat.{ℕ}
 use lib.Ieee.{Float}
 use Rattle.floats.specs.Promises.{ChancePromise, ChanceRefusalPromise, DoubleOfPromise, EndsAreFinitePromise, FloatOfPromise}
-use Rattle.floats.specs.Promises.{IntervalRefusalPromise, IsChancePromise, IsOutOfOrderPromise, NumberInPromise, UniformOfPromise}
+use Rattle.floats.specs.Promises.{IntervalRefusalPromise, IsChancePromise, IsOutOfOrderPromise, UniformOfPromise}
 use Rattle.floats.specs.declared.chances.Coin.{Coin}
 use Rattle.floats.specs.declared.intervals.Interval.{Interval}
 use Rattle.floats.specs.declared.intervals.Uniform.{Uniform}
@@ -26,9 +26,6 @@ one-is-out-of-order i p q = p ∙ sym q
 
 pub one-interval-refusal : (i : Interval) {a b : ℕ} → IntervalRefusalPromise i a → IntervalRefusalPromise i b → a ≡ b
 one-interval-refusal i p q = p ∙ sym q
-
-pub one-number-in : (i : Interval) (word : ℕ) {a b : Float} → NumberInPromise i word a → NumberInPromise i word b → a ≡ b
-one-number-in i word p q = p ∙ sym q
 
 pub one-uniform-of : (i : Interval) (word : ℕ) {a b : Uniform} → UniformOfPromise i word a → UniformOfPromise i word b → a ≡ b
 one-uniform-of i word p q = p ∙ sym q

@@ -1,8 +1,8 @@
 // A number of an interval: low + (high - low) * double, each operation rounded once.
 ghost use mathlib.Core.Path.{_≡_};
 ghost use lib.Ieee.Scale.{finite};
-ghost use Rattle.floats.specs.Promises.{EndsAreFinitePromise, IsOutOfOrderPromise, IntervalRefusalPromise, NumberInPromise};
-ghost use Rattle.floats.specs.Promises.{UniformOfPromise};
+ghost use Rattle.floats.specs.Intervals.{numberIn};
+ghost use Rattle.floats.specs.Promises.{EndsAreFinitePromise, IsOutOfOrderPromise, IntervalRefusalPromise, UniformOfPromise};
 use super::units::double_of;
 use words::refusal;
 
@@ -62,9 +62,9 @@ pub fn interval_refusal(i: Interval) -> u32
     }
 }
 
-// The number that a word gives, for any two ends.
-pub fn number_in(i: Interval, word: u64) -> f64
-    ensures { λ r. ⌜ NumberInPromise i word r ⌝ }
+// The number that a word gives. It is asked for where the interval is taken alone: of an end that is a NaN no bits are known.
+fn number_in(i: Interval, word: u64) -> f64
+    ensures { λ r. ⌜ r ≡ numberIn i word ⌝ }
 {
     let low = i.low;
     let high = i.high;

@@ -12,7 +12,6 @@ pub use intervals::Uniform;
 pub use intervals::ends_are_finite;
 pub use intervals::interval_refusal;
 pub use intervals::is_out_of_order;
-pub use intervals::number_in;
 pub use intervals::uniform_of;
 pub use units::double_of;
 pub use units::float_of;

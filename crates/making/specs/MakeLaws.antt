@@ -20,6 +20,14 @@ use Rattle.making.specs.declared.bytes.Made.{Made}
 use Rattle.making.specs.Make.{ofXoshiro, ofTwister, ofPcg32, ofPcg64, seedLengthOf, ofKind}
 use Rattle.making.specs.Make.{refusedMaking, answeredMaking, madeBytes}
 
+-- ---- the length of a kind's seed
+
+pub short-seed : (kind : ℕ) → kind ≡ 2 → seedLengthOf kind ≡ 16
+short-seed kind e = rw e
+
+pub long-seed : (kind : ℕ) → (kind ≡ 2 → ⊥) → seedLengthOf kind ≡ 32
+long-seed kind n = rw (ne-eqb kind 2 n)
+
 module _ (kind : ℕ) (s : List ℕ) where
   -- ---- the generator of a kind
 

@@ -13,11 +13,8 @@ use Rattle.xoshiro.specs.declared.Xoshiro256PlusPlus.{Xoshiro256PlusPlus}
 use Rattle.making.specs.Promises.{FromMersenneTwisterPromise, FromPcg32Promise, FromPcg64Promise, FromU64SeedPromise}
 use Rattle.making.specs.Promises.{FromXoshiroPromise, MakePromise, NewMersenneTwisterWithSeedPromise, NewPcg32WithSeedPromise}
 use Rattle.making.specs.Promises.{NewPcg32WithStreamPromise, NewPcg64WithSeedPromise, NewPcg64WithStreamPromise, MakingSeedInPromise}
-use Rattle.making.specs.Promises.{SeedLengthPromise, SeedPromise, ZerosPromise}
+use Rattle.making.specs.Promises.{SeedPromise, ZerosPromise}
 use Rattle.making.specs.declared.bytes.Made.{Made}
-
-pub one-seed-length : (kind : ℕ) {a b : ℕ} → SeedLengthPromise kind a → SeedLengthPromise kind b → a ≡ b
-one-seed-length kind p q = p ∙ sym q
 
 pub one-make : (kind : ℕ) (seed : List ℕ) {a b : Made} → MakePromise kind seed a → MakePromise kind seed b → a ≡ b
 one-make kind seed p q = p ∙ sym q

@@ -5,7 +5,6 @@ mod seeding;
 
 pub use bytes::Made;
 pub use bytes::make;
-pub use bytes::seed_length;
 pub use own_calls::from_mersenne_twister;
 pub use own_calls::from_pcg32;
 pub use own_calls::from_pcg64;

@@ -55,10 +55,6 @@ StoredPositionPromise value r = r ≡ storedPosition value
 abbrev pub SeedInPromise : List ℕ → ℕ → ℕ → List ℕ → Type 0
 SeedInPromise mt seed r mt′ = held mt′ r ≡ seededIn mt seed
 
--- `fold_seed`: the bytes' eight words, XORed
-abbrev pub FoldSeedPromise : List ℕ → ℕ → Type 0
-FoldSeedPromise seed r = r ≡ folded seed
-
 -- `from_seed_in`: seeded in place with the number that the bytes come to
 abbrev pub FromSeedInPromise : List ℕ → List ℕ → ℕ → List ℕ → Type 0
 FromSeedInPromise mt seed r mt′ = held mt′ r ≡ seededIn mt (folded seed)

@@ -2,7 +2,7 @@
 use mathlib.Core.List.{List}
 use mathlib.Core.Path.{_≡_, sym, _∙_, ap}
 use Prim.Native.Nat.{ℕ}
-use Rattle.mersenne_twister.specs.Promises.{FoldSeedPromise, FromSeedInPromise, NextU64InPromise, RandInPromise, SeedInPromise}
+use Rattle.mersenne_twister.specs.Promises.{FromSeedInPromise, NextU64InPromise, RandInPromise, SeedInPromise}
 use Rattle.mersenne_twister.specs.Promises.{StoredPositionPromise, TemperWordPromise, TwistInPromise, TwisterFromPartsPromise}
 use Rattle.mersenne_twister.specs.Promises.{TwisterFromSeedPromise, TwisterFromU32SeedPromise, TwisterMtiPromise}
 use Rattle.mersenne_twister.specs.Promises.{TwisterNextU64Promise, TwisterRandPromise, TwisterSeedPromise, TwisterSetMtiPromise}
@@ -63,9 +63,6 @@ one-stored-position value p q = p ∙ sym q
 pub one-seed-in : (mt : List ℕ) (seed : ℕ) {a b : ℕ} {mt₁ mt₂ : List ℕ}
     → SeedInPromise mt seed a mt₁ → SeedInPromise mt seed b mt₂ → (a ≡ b) × (mt₁ ≡ mt₂)
 one-seed-in mt seed p q = held-apart (p ∙ sym q)
-
-pub one-fold-seed : (seed : List ℕ) {a b : ℕ} → FoldSeedPromise seed a → FoldSeedPromise seed b → a ≡ b
-one-fold-seed seed p q = p ∙ sym q
 
 pub one-from-seed-in : (mt seed : List ℕ) {a b : ℕ} {mt₁ mt₂ : List ℕ}
     → FromSeedInPromise mt seed a mt₁ → FromSeedInPromise mt seed b mt₂ → (a ≡ b) × (mt₁ ≡ mt₂)

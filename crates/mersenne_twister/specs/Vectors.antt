@@ -1,5 +1,6 @@
--- The definitions give the words that mt19937ar.c gives, worked out here.
-use Prim.Native.Nat.{ℕ, suc}
+-- The definitions give the words that mt19937ar.c gives, and of a byte seed those that the original Rust gives, worked out here.
+use Prim.Native.Nat.{ℕ, suc, _^_, _%_}
+use mathlib.Core.List.{List}
 use mathlib.Core.Path.{_≡_, refl}
 use native.Mathlib.Omega.{arith}
 use Rattle.wrapping.specs.Bytes.{little}
@@ -31,3 +32,21 @@ counted = refl
 equal : folded (terms (λ (k : ℕ). 7) 0 32) ≡ 0
 unfolding terms little wordsXored
 equal = refl
+
+-- 32 different bytes: the powers of 3 modulo 257, from 3 on
+abbrev powersOfThree : List ℕ
+powersOfThree = terms (λ (k : ℕ). 3 ^ suc k % 257) 0 32
+
+-- the number that they fold to, and the first words after it
+
+powers : folded powersOfThree ≡ 0x179d036e
+unfolding terms little wordsXored
+powers = refl
+
+folded-0 : wordOf (seeded (folded powersOfThree)) 0 ≡ 2580345636
+unfolding timesA joined follow seedStep seedWord temper temper1 temper2 temper3 temper4
+folded-0 = rw powers (early-words 0x179d036e 0 (omega arith))
+
+folded-1 : wordOf (seeded (folded powersOfThree)) 1 ≡ 2178127612
+unfolding timesA joined follow seedStep seedWord temper temper1 temper2 temper3 temper4
+folded-1 = rw powers (early-words 0x179d036e 1 (omega arith))

@@ -9,7 +9,7 @@ ghost use Rattle.mersenne_twister.specs.Promises.{TwisterTwistPromise, T
 pub use constants::END;
 pub use table::Step;
 pub use table::Step64;
-pub use table::fold_seed;
+use table::fold_seed;
 pub use table::from_seed_in;
 pub use table::next_u64_in;
 pub use table::rand_in;

@@ -1,8 +1,8 @@
 // The generator over a table that the caller lends: seeding, twist and draws in place. No table is copied.
 ghost use mathlib.Core.Path.{_≡_};
 ghost use Prim.Native.Nat.{_<_};
-ghost use Rattle.mersenne_twister.specs.Table.{renewWith, renewed};
-ghost use Rattle.mersenne_twister.specs.Promises.{StoredPositionPromise, SeedInPromise, FoldSeedPromise, FromSeedInPromise};
+ghost use Rattle.mersenne_twister.specs.Table.{folded, renewWith, renewed};
+ghost use Rattle.mersenne_twister.specs.Promises.{StoredPositionPromise, SeedInPromise, FromSeedInPromise};
 ghost use Rattle.mersenne_twister.specs.Promises.{TwistInPromise, RandInPromise, NextU64InPromise};
 use super::constants::END;
 use super::constants::M;
@@ -47,8 +47,8 @@ pub fn seed_in(mt: &mut [u32; 624], seed: u32) -> u32
 }
 
 // The eight little-endian words of a seed of 32 bytes, XORed.
-pub fn fold_seed(seed: &[u8]) -> u32
-    ensures { λ r. ⌜ FoldSeedPromise (now (seed .entry)) r ⌝ }
+pub(crate) fn fold_seed(seed: &[u8]) -> u32
+    ensures { λ r. ⌜ r ≡ folded (now (seed .entry)) ⌝ }
 {
     let mut word: u32 = 0;
     let mut k: usize = 0;

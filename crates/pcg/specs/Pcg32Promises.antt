@@ -23,10 +23,6 @@ Pcg32FromU64SeedPromise seed r = r ≡ seeded seed defaultStream
 abbrev pub Pcg32FromSeedPromise : List ℕ → Pcg32 → Type 0
 Pcg32FromSeedPromise seed r = r ≡ seededBytes seed
 
--- `from_slice`: the same of a list of bytes
-abbrev pub Pcg32FromSlicePromise : List ℕ → Pcg32 → Type 0
-Pcg32FromSlicePromise seed r = r ≡ seededBytes seed
-
 -- `next_u32`: the old state's word, and the generator after it
 abbrev pub Pcg32NextU32Promise : Pcg32 → Drawn32 → Type 0
 Pcg32NextU32Promise self r = r ≡ drawn self

@@ -2,7 +2,7 @@
 use mathlib.Core.List.{List}
 use mathlib.Core.Path.{_≡_, sym, _∙_}
 use Prim.Native.Nat.{ℕ}
-use Rattle.pcg.specs.Pcg32Promises.{Pcg32FromPartsPromise, Pcg32FromSeedPromise, Pcg32FromSeedStreamPromise, Pcg32FromSlicePromise}
+use Rattle.pcg.specs.Pcg32Promises.{Pcg32FromPartsPromise, Pcg32FromSeedPromise, Pcg32FromSeedStreamPromise}
 use Rattle.pcg.specs.Pcg32Promises.{Pcg32FromU64SeedPromise, Pcg32NextU32Promise, Pcg32NextU64Promise}
 use Rattle.pcg.specs.declared.pcg32.Drawn32.{Drawn32}
 use Rattle.pcg.specs.declared.pcg32.Drawn64.{Drawn64}
@@ -20,9 +20,6 @@ one-pcg32-from-u64-seed seed p q = p ∙ sym q
 
 pub one-pcg32-from-seed : (seed : List ℕ) {a b : Pcg32} → Pcg32FromSeedPromise seed a → Pcg32FromSeedPromise seed b → a ≡ b
 one-pcg32-from-seed seed p q = p ∙ sym q
-
-pub one-pcg32-from-slice : (seed : List ℕ) {a b : Pcg32} → Pcg32FromSlicePromise seed a → Pcg32FromSlicePromise seed b → a ≡ b
-one-pcg32-from-slice seed p q = p ∙ sym q
 
 pub one-pcg32-next-u32 : (self : Pcg32) {a b : Drawn32} → Pcg32NextU32Promise self a → Pcg32NextU32Promise self b → a ≡ b
 one-pcg32-next-u32 self p q = p ∙ sym q

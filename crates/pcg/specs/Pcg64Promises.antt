@@ -25,10 +25,6 @@ Pcg64FromU128SeedPromise seed r = r ≡ seeded (value seed) defaultStream
 abbrev pub Pcg64FromSeedPromise : List ℕ → Pcg64 → Type 0
 Pcg64FromSeedPromise seed r = r ≡ seededBytes seed
 
--- `from_slice`: the same of a list of bytes
-abbrev pub Pcg64FromSlicePromise : List ℕ → Pcg64 → Type 0
-Pcg64FromSlicePromise seed r = r ≡ seededBytes seed
-
 -- `next_u64`: the old state's word, and the generator after it
 abbrev pub Pcg64NextU64Promise : Pcg64 → Drawn64 → Type 0
 Pcg64NextU64Promise self r = r ≡ drawn self

@@ -1,8 +1,8 @@
 // PCG-XSH-RR-64/32: a state of 64 bits and an increment, words of 32 bits.
 ghost use mathlib.Core.Path.{_≡_};
-ghost use Rattle.pcg.specs.Pcg32.{nextState, output};
+ghost use Rattle.pcg.specs.Pcg32.{nextState, output, seededBytes};
 ghost use Rattle.pcg.specs.Pcg32Promises.{Pcg32FromPartsPromise, Pcg32FromSeedStreamPromise, Pcg32FromU64SeedPromise};
-ghost use Rattle.pcg.specs.Pcg32Promises.{Pcg32FromSeedPromise, Pcg32FromSlicePromise, Pcg32NextU32Promise, Pcg32NextU64Promise};
+ghost use Rattle.pcg.specs.Pcg32Promises.{Pcg32FromSeedPromise, Pcg32NextU32Promise, Pcg32NextU64Promise};
 
 // The multiplier of the step, O'Neill's for 64 bits.
 const MULTIPLIER: u64 = 6_364_136_223_846_793_005;
@@ -46,6 +46,15 @@ fn word_of(state: u64) -> u32
     wrapping::rotate_right_u32(xorshifted, (state >> 59) as u32)
 }
 
+// The generator of 16 bytes: the seed and then the stream, whose low bit is set before it is shifted.
+fn of_bytes(seed: &[u8]) -> Pcg32
+    ensures { λ r. ⌜ r ≡ seededBytes (now (seed .entry)) ⌝ }
+{
+    let state = wrapping::le_u64(seed, 0);
+    let stream = wrapping::le_u64(seed, 8);
+    Pcg32::from_seed_stream(state, stream / 2 * 2 + 1)
+}
+
 impl Pcg32 {
     // The generator with this state and the increment in use, an even one included.
     pub fn from_parts(state: u64, inc: u64) -> Pcg32
@@ -73,20 +82,11 @@ impl Pcg32 {
         Pcg32::from_seed_stream(seed, DEFAULT_STREAM)
     }
 
-    // From 16 bytes: the seed and then the stream, whose low bit is set before it is shifted.
+    // From 16 bytes.
     pub fn from_seed(seed: [u8; 16]) -> Pcg32
         ensures { λ r. ⌜ Pcg32FromSeedPromise seed r ⌝ }
     {
-        Pcg32::from_slice(&seed)
-    }
-
-    // The same from a list of 16 bytes; what a shorter one lacks counts as 0, and what a longer one has beyond is not looked at.
-    pub fn from_slice(seed: &[u8]) -> Pcg32
-        ensures { λ r. ⌜ Pcg32FromSlicePromise (now (seed .entry)) r ⌝ }
-    {
-        let state = wrapping::le_u64(seed, 0);
-        let stream = wrapping::le_u64(seed, 8);
-        Pcg32::from_seed_stream(state, stream / 2 * 2 + 1)
+        of_bytes(&seed)
     }
 
     // The next word. It is made of the old state.

@@ -1,8 +1,8 @@
 // PCG-XSL-RR-128/64: a state and an increment of 128 bits each, words of 64 bits.
 ghost use mathlib.Core.Path.{_≡_};
-ghost use Rattle.pcg.specs.Pcg64.{nextState, output, incrementOf};
+ghost use Rattle.pcg.specs.Pcg64.{nextState, output, incrementOf, seededBytes};
 ghost use Rattle.pcg.specs.Pcg64Promises.{Pcg64FromPartsPromise, Pcg64FromSeedStreamPromise, Pcg64FromU128SeedPromise};
-ghost use Rattle.pcg.specs.Pcg64Promises.{Pcg64FromSeedPromise, Pcg64FromSlicePromise, Pcg64NextU64Promise, Pcg64NextU32Promise};
+ghost use Rattle.pcg.specs.Pcg64Promises.{Pcg64FromSeedPromise, Pcg64NextU64Promise, Pcg64NextU32Promise};
 use wrapping::Wide;
 
 // The multiplier of the step, O'Neill's for 128 bits.
@@ -61,6 +61,21 @@ fn increment(stream: Wide) -> Wide
         .wrapping_add(Wide { high: 0, low: 1 })
 }
 
+// The generator of 32 bytes: the seed and then the stream, whose low bit is set before it is shifted.
+fn of_bytes(seed: &[u8]) -> Pcg64
+    ensures { λ r. ⌜ r ≡ seededBytes (now (seed .entry)) ⌝ }
+{
+    let state = Wide {
+        high: wrapping::le_u64(seed, 8),
+        low: wrapping::le_u64(seed, 0),
+    };
+    let stream = Wide {
+        high: wrapping::le_u64(seed, 24),
+        low: wrapping::le_u64(seed, 16) / 2 * 2 + 1,
+    };
+    Pcg64::from_seed_stream(state, stream)
+}
+
 impl Pcg64 {
     // The generator with this state and the increment in use, an even one included.
     pub fn from_parts(state: Wide, inc: Wide) -> Pcg64
@@ -86,26 +101,11 @@ impl Pcg64 {
         Pcg64::from_seed_stream(seed, DEFAULT_STREAM)
     }
 
-    // From 32 bytes: the seed and then the stream, whose low bit is set before it is shifted.
+    // From 32 bytes.
     pub fn from_seed(seed: [u8; 32]) -> Pcg64
         ensures { λ r. ⌜ Pcg64FromSeedPromise seed r ⌝ }
     {
-        Pcg64::from_slice(&seed)
-    }
-
-    // The same from a list of 32 bytes; what a shorter one lacks counts as 0, and what a longer one has beyond is not looked at.
-    pub fn from_slice(seed: &[u8]) -> Pcg64
-        ensures { λ r. ⌜ Pcg64FromSlicePromise (now (seed .entry)) r ⌝ }
-    {
-        let state = Wide {
-            high: wrapping::le_u64(seed, 8),
-            low: wrapping::le_u64(seed, 0),
-        };
-        let stream = Wide {
-            high: wrapping::le_u64(seed, 24),
-            low: wrapping::le_u64(seed, 16) / 2 * 2 + 1,
-        };
-        Pcg64::from_seed_stream(state, stream)
+        of_bytes(&seed)
     }
 
     // The next word. It is made of the old state.

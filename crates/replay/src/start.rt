@@ -83,10 +83,15 @@ fn of_parts(kind: u32, n: Numbers) -> Random {
     making::from_pcg64(Pcg64::from_parts(state, inc))
 }
 
+// How many bytes a kind's seed has.
+fn seed_length(kind: u32) -> usize {
+    if kind == 2 { 16 } else { 32 }
+}
+
 // The kind's bytes of the eight words.
 fn of_bytes(kind: u32, data: &[u8], row: u32) -> Random {
     let from = sample::place(row, MAKER);
-    let length = making::seed_length(kind);
+    let length = seed_length(kind);
     let n = data.len();
     if from <= n {
         if length <= n - from {

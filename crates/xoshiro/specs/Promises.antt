@@ -21,10 +21,6 @@ XoshiroFromU64SeedPromise seed r = r ≡ seeded seed
 abbrev pub XoshiroFromSeedPromise : List ℕ → Xoshiro256PlusPlus → Type 0
 XoshiroFromSeedPromise seed r = r ≡ seededBytes seed
 
--- `from_slice`: the same of a list of bytes
-abbrev pub XoshiroFromSlicePromise : List ℕ → Xoshiro256PlusPlus → Type 0
-XoshiroFromSlicePromise seed r = r ≡ seededBytes seed
-
 -- `next_u64`: the old state's word, and the state after it
 abbrev pub XoshiroNextU64Promise : Xoshiro256PlusPlus → Drawn64 → Type 0
 XoshiroNextU64Promise self r = r ≡ drawn self

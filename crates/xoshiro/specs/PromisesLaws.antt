@@ -2,8 +2,8 @@
 use mathlib.Core.List.{List}
 use mathlib.Core.Path.{_≡_, sym, _∙_}
 use Prim.Native.Nat.{ℕ}
-use Rattle.xoshiro.specs.Promises.{XoshiroFromPartsPromise, XoshiroFromSeedPromise, XoshiroFromSlicePromise}
-use Rattle.xoshiro.specs.Promises.{XoshiroFromU64SeedPromise, XoshiroJumpPromise, XoshiroNextU32Promise, XoshiroNextU64Promise}
+use Rattle.xoshiro.specs.Promises.{XoshiroFromPartsPromise, XoshiroFromSeedPromise, XoshiroFromU64SeedPromise}
+use Rattle.xoshiro.specs.Promises.{XoshiroJumpPromise, XoshiroNextU32Promise, XoshiroNextU64Promise}
 use Rattle.xoshiro.specs.declared.Drawn32.{Drawn32}
 use Rattle.xoshiro.specs.declared.Drawn64.{Drawn64}
 use Rattle.xoshiro.specs.declared.Xoshiro256PlusPlus.{Xoshiro256PlusPlus}
@@ -19,10 +19,6 @@ one-xoshiro-from-u64-seed seed p q = p ∙ sym q
 pub one-xoshiro-from-seed : (seed : List ℕ) {a b : Xoshiro256PlusPlus}
     → XoshiroFromSeedPromise seed a → XoshiroFromSeedPromise seed b → a ≡ b
 one-xoshiro-from-seed seed p q = p ∙ sym q
-
-pub one-xoshiro-from-slice : (seed : List ℕ) {a b : Xoshiro256PlusPlus}
-    → XoshiroFromSlicePromise seed a → XoshiroFromSlicePromise seed b → a ≡ b
-one-xoshiro-from-slice seed p q = p ∙ sym q
 
 pub one-xoshiro-next-u64 : (self : Xoshiro256PlusPlus) {a b : Drawn64} → XoshiroNextU64Promise self a → XoshiroNextU64Promise self b → a ≡ b
 one-xoshiro-next-u64 self p q = p ∙ sym q

@@ -1,6 +1,6 @@
 // How a seed becomes four words of state: SplitMix64, and the one place that replaces a seed of 0.
 ghost use mathlib.Core.Path.{_≡_};
-ghost use Rattle.xoshiro.specs.Promises.{XoshiroFromU64SeedPromise, XoshiroFromSeedPromise, XoshiroFromSlicePromise};
+ghost use Rattle.xoshiro.specs.Promises.{XoshiroFromU64SeedPromise, XoshiroFromSeedPromise};
 ghost use Rattle.xoshiro.specs.Seed.{nonzeroSeed, fourWords, xorOfWords};
 ghost use Rattle.xoshiro.specs.SplitMix64.{nextState, mixed};
 use super::Xoshiro256PlusPlus;
@@ -67,13 +67,6 @@ impl Xoshiro256PlusPlus {
     pub fn from_seed(seed: [u8; 32]) -> Xoshiro256PlusPlus
         ensures { λ r. ⌜ XoshiroFromSeedPromise seed r ⌝ }
     {
-        Xoshiro256PlusPlus::from_slice(&seed)
-    }
-
-    // The same from a list of 32 bytes; what a shorter one lacks counts as 0, and what a longer one has beyond is not looked at.
-    pub fn from_slice(seed: &[u8]) -> Xoshiro256PlusPlus
-        ensures { λ r. ⌜ XoshiroFromSlicePromise (now (seed .entry)) r ⌝ }
-    {
-        Xoshiro256PlusPlus::from_u64_seed(folded(seed))
+        Xoshiro256PlusPlus::from_u64_seed(folded(&seed))
     }
 }

@@ -11,15 +11,15 @@ interval-refusal-requires c κs = search needs
 next-u64-requires : tie.Need-next-u64-requires
 next-u64-requires c κs = search needs
 
-number-in-requires : tie.Need-number-in-requires
-number-in-requires c κs = search needs
+uniform-of-requires : tie.Need-uniform-of-requires
+uniform-of-requires c κs = search needs
 
 returns : tie.Need-returns
 returns c =
     let drawn = c .before .before in
     let test = drawn .before .before in
     let none = sym (test .before .interval-refusal .ensures) ∙ test .if1 .taken in
-    rw (c .number-in .ensures) (spread-taken _ _ none (drawn .next-u64 .result) _ (drawn .next-u64 .ensures))
+    rw (c .uniform-of .ensures) (spread-taken _ _ none (drawn .next-u64 .result) _ (drawn .next-u64 .ensures))
 
 returns-2 : tie.Need-returns-2
 returns-2 c =
@@ -29,4 +29,4 @@ returns-2 c =
 pub uniform-in-spec : {M : Type 1} → statement M
 uniform-in-spec =
     tie.close
-    (tie.spec interval-refusal-requires next-u64-requires number-in-requires returns returns-2)
+    (tie.spec interval-refusal-requires next-u64-requires uniform-of-requires returns returns-2)

@@ -1,4 +1,4 @@
--- `Pcg64::from_slice` meets its contract: two words of 8 bytes are the number of 16.
+-- `pcg64::of_bytes` meets its contract: two words of 8 bytes are the number of 16.
 use mathlib.Core.List.{List}
 use mathlib.Core.Path.{_≡_, _∙_, ap₂}
 use Prim.Native.Nat.{ℕ, _+_, _*_, _/_, _^_}
@@ -9,8 +9,8 @@ use Rattle.wrapping.specs.Bytes.{little}
 use Rattle.wrapping.specs.BytesLaws.{little-joined}
 use Rattle.pcg.specs.Lcg.{lowBitSet}
 use Rattle.pcg.specs.Pcg64.{seeded}
-use Rattle.pcg.proofs.pcg64.Pcg64.from_slice.Statement.{statement}
-use Rattle.pcg.proofs.pcg64.Pcg64.from_slice.Tie as tie
+use Rattle.pcg.proofs.pcg64.of_bytes.Statement.{statement}
+use Rattle.pcg.proofs.pcg64.of_bytes.Tie as tie
 
 -- the two words of a number of 16 bytes, and the same with the low bit set
 joined : (s : List ℕ) (i : ℕ) → little 8 s (i + 8) * 2 ^ 64 + little 8 s i ≡ little 16 s i
@@ -51,8 +51,8 @@ returns c =
     ∙ rw (fourth .le-u644 .ensures, third .le-u643 .ensures, second .le-u642 .ensures, first .le-u64 .ensures)
     (ap₂ seeded (joined s 0) (joined-odd s 16))
 
-pub from-slice-spec : {M : Type 1} → statement M
-from-slice-spec =
+pub of-bytes-spec : {M : Type 1} → statement M
+of-bytes-spec =
     tie.close
     (tie.spec
     le-u64-requires

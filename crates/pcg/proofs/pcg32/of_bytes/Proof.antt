@@ -1,7 +1,7 @@
--- `Pcg32::from_slice` meets its contract: the bytes' two words are the seed and the stream.
+-- `pcg32::of_bytes` meets its contract: the bytes' two words are the seed and the stream.
 use borrow.Author.Needs.{needs}
-use Rattle.pcg.proofs.pcg32.Pcg32.from_slice.Statement.{statement}
-use Rattle.pcg.proofs.pcg32.Pcg32.from_slice.Tie as tie
+use Rattle.pcg.proofs.pcg32.of_bytes.Statement.{statement}
+use Rattle.pcg.proofs.pcg32.of_bytes.Tie as tie
 
 le-u64-requires : tie.Need-le-u64-requires
 le-u64-requires c κs = search needs
@@ -21,8 +21,8 @@ from-seed-stream-requires c κs = search needs
 returns : tie.Need-returns
 returns c = rw (c .from-seed-stream .ensures, c .before .le-u642 .ensures, c .before .before .le-u64 .ensures)
 
-pub from-slice-spec : {M : Type 1} → statement M
-from-slice-spec =
+pub of-bytes-spec : {M : Type 1} → statement M
+of-bytes-spec =
     tie.close
     (tie.spec
     le-u64-requires
