@@ -11,7 +11,7 @@ use Rattle.words.specs.Refusal as refusal
 use Rattle.signed.specs.Signed.{signedOf}
 use Rattle.floats.specs.Chances as chances
 use Rattle.floats.specs.IntervalLaws.{uniform-taken, uniform-refused}
-use Rattle.floats.specs.Intervals.{intervalRefusal, numberIn}
+use Rattle.floats.specs.Intervals.{intervalRefusal, uniformOf}
 use Rattle.floats.specs.Units as units
 use Rattle.floats.specs.declared.intervals.Interval.{Interval}
 use Rattle.random.specs.Generator.{word64Of, steps64, randOf, u64Of, i64Of}
@@ -22,7 +22,7 @@ use Rattle.float_draws.specs.Spreads.{spreadFrom}
 use Rattle.float_draws.specs.Units.{floatFrom, doubleFrom}
 use Rattle.vrd_ffi.specs.Answers.{Told, told, Reply, formed, written, atBoundary}
 use Rattle.vrd_ffi.specs.AnswersLaws.{known-kind, kept}
-use Rattle.vrd_ffi.specs.Handed.{word, signedWord, number32, number64, coin, zero32, zero64}
+use Rattle.vrd_ffi.specs.Handed.{word, signedWord, number32, number64, coin, zero32, zero64, uniformNumber}
 use Rattle.vrd_ffi.specs.Handed.{wordOf32, wordOf64, signedOf64, floatOf, doubleOf, coinOf, spreadOf}
 use Rattle.vrd_ffi.specs.Moves.{drew32, drew64, Moves32, Moves64}
 use Rattle.vrd_ffi.specs.State.{kindIn, backendIn, generatorIn}
@@ -65,10 +65,10 @@ module _ (s t : List ℕ) (k : kindIn s ≤ 3) {w : ℕ} {s′ u : List ℕ} whe
       moved-as (drew64 (u64Of (generatorIn s t))) (λ v. coin (chances.coinOf p v .value) (steps64 (backendIn s)) 0) _ _ m (rw c)
 
   pub spread-moved : (i : Interval) → intervalRefusal i ≡ 0 → Moves64 s t w s′ u
-      → told (number64 (numberIn i w) 0) s′ u ≡ atBoundary s t (number64 zero64 refusal.kind) (λ g. spreadOf (spreadFrom g i))
+      → told (uniformNumber (uniformOf i w)) s′ u ≡ atBoundary s t (number64 zero64 refusal.kind) (λ g. spreadOf (spreadFrom g i))
   unfolding u64Of spreadFrom
   spread-moved i z m =
-      moved-as (drew64 (u64Of (generatorIn s t))) (λ v. number64 (numberIn i v) 0) _ _ m
+      moved-as (drew64 (u64Of (generatorIn s t))) (λ v. uniformNumber (uniformOf i v)) _ _ m
       (rw (uniform-taken i (word64Of (generatorIn s t)) z, eq-eqb (intervalRefusal i) 0 z))
 
 -- ---- refused, and no word drawn

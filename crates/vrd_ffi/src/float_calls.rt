@@ -1,5 +1,6 @@
 // Floats: from 0 up to 1, a chance, and a number of an interval.
 ghost use mathlib.Core.Path.{_≡_};
+ghost use Rattle.vrd_ffi.specs.Handed.{uniformNumber};
 ghost use Rattle.vrd_ffi.specs.Moves.{stepsIn};
 ghost use Rattle.vrd_ffi.specs.Promises.{VrdFloatPromise, VrdDoublePromise, VrdBoolPromise, VrdUniformPromise};
 use crate::answers::Coin;
@@ -8,6 +9,7 @@ use crate::answers::Number64;
 use crate::moves::move_u32;
 use crate::moves::move_u64;
 use floats::Interval;
+use floats::Uniform;
 use words::refusal;
 
 // (word >> 8) / 2^24 of the next word.
@@ -91,6 +93,22 @@ pub extern "C" fn vrd_bool_in(state: &mut [u64; 6], table: &mut [u32; 624], chan
     }
 }
 
+// A number or a refusal's number, as one answer: refused, the number is 0.
+fn uniform_number(u: Uniform) -> Number64
+    ensures { λ r. ⌜ r ≡ uniformNumber u ⌝ }
+{
+    match u {
+        Uniform::Number(value) => Number64 {
+            value,
+            refusal: refusal::ANSWERED,
+        },
+        Uniform::Refused(number) => Number64 {
+            value: 0.0,
+            refusal: number,
+        },
+    }
+}
+
 // A number of the interval from low to high.
 #[no_mangle]
 pub extern "C" fn vrd_uniform_in(
@@ -116,9 +134,5 @@ pub extern "C" fn vrd_uniform_in(
         };
     }
     let word = move_u64(state, table);
-    let value = floats::number_in(i, word);
-    Number64 {
-        value,
-        refusal: refusal::ANSWERED,
-    }
+    uniform_number(floats::uniform_of(i, word))
 }

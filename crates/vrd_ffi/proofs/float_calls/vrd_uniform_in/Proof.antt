@@ -23,15 +23,18 @@ returns-2 c =
 move-u64-requires : tie.Need-move-u64-requires
 move-u64-requires c κs = search needs
 
-number-in-requires : tie.Need-number-in-requires
-number-in-requires c κs = search needs
+uniform-of-requires : tie.Need-uniform-of-requires
+uniform-of-requires c κs = search needs
+
+uniform-number-requires : tie.Need-uniform-number-requires
+uniform-number-requires c κs = search needs
 
 returns-3 : tie.Need-returns-3
 returns-3 c =
-    let taken = c .before .before .before .before in
+    let taken = c .before .before .before .before .before in
     let known = taken .before .before in
     let none = sym (taken .before .interval-refusal .ensures) ∙ taken .if2 .left in
-    rw (c .number-in .ensures) (spread-moved _ _ (known .if1 .left) _ none (c .before .move-u64 .ensures))
+    rw (c .uniform-number .ensures, c .before .uniform-of .ensures) (spread-moved _ _ (known .if1 .left) _ none (c .before .before .move-u64 .ensures))
 
 pub vrd-uniform-in-spec : {M : Type 1} → statement M
 vrd-uniform-in-spec =
@@ -42,5 +45,6 @@ vrd-uniform-in-spec =
     interval-refusal-requires
     returns-2
     move-u64-requires
-    number-in-requires
+    uniform-of-requires
+    uniform-number-requires
     returns-3)
