@@ -55,7 +55,8 @@ raised-zero o = go (eqb (o .refusal) 0) refl
 -- a draw that is refused has used no word, so that it leaves the very lists that came
 pub refused-draw-keeps : (s t : List ℕ) (by : Words → Outcome) → (by (wordsOf (generatorIn s t)) .refusal ≡ refusal.answered → ⊥)
     → by (wordsOf (generatorIn s t)) .used ≡ 0
-    → (atBoundary s t (number 0 0 refusal.kind) (drawnBy by) .state ≡ s) × (atBoundary s t (number 0 0 refusal.kind) (drawnBy by) .table ≡ t)
+    → (atBoundary s t (number 0 0 refusal.kind) (drawnBy by) .state ≡ s)
+    × (atBoundary s t (number 0 0 refusal.kind) (drawnBy by) .table ≡ t)
 unfolding library.answered
 refused-draw-keeps s t by h unused =
     let g = generatorIn s t in
