@@ -101,7 +101,8 @@ module _ (s t : List ℕ) (budget p : ℕ) {s′ u : List ℕ} where
 
   pub start-drawn : (n window : ℕ) → n ≤ listLimit → 0 < window → window ≤ n → Draws s t (n - window + 1) budget 0 p s′ u
       → told (unpacked p) s′ u
-      ≡ atBoundary s t (number 0 0 refusal.kind) (λ g. startOf (slicing.startedBy g (slicing.sliceBy (wordsOf g) n window budget)))
+      ≡ atBoundary s t (number 0 0 refusal.kind)
+      (λ g. startOf (slicing.startedBy g (slicing.sliceBy (wordsOf g) n window budget)))
   unfolding slicing.startedBy slicing.sliceBy library.answered
   start-drawn n window h some room d =
       let w = wordsOf (generatorIn s t) in
