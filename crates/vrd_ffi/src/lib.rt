@@ -3,6 +3,7 @@
 // changes.
 mod answers;
 mod buffer_calls;
+mod choose_calls;
 mod draw_calls;
 mod drawing;
 mod first_word;
@@ -10,7 +11,7 @@ mod float_calls;
 mod int_calls;
 mod making_calls;
 mod moves;
-mod place_calls;
+mod slice_calls;
 mod state;
 mod state_calls;
 mod uint_calls;

@@ -1,7 +1,7 @@
 -- `entry_at` meets its contract.
 use borrow.Author.Needs.{needs}
-use Rattle.vrd_ffi.proofs.place_calls.entry_at.Statement.{statement}
-use Rattle.vrd_ffi.proofs.place_calls.entry_at.Tie as tie
+use Rattle.vrd_ffi.proofs.choose_calls.entry_at.Statement.{statement}
+use Rattle.vrd_ffi.proofs.choose_calls.entry_at.Tie as tie
 
 mul-result : tie.Need-mul-result
 mul-result c = search needs

@@ -2,8 +2,8 @@
 use borrow.Author.Needs.{needs}
 use native.Mathlib.Omega.{arith}
 use Rattle.vrd_ffi.specs.DrawLaws.{start-drawn}
-use Rattle.vrd_ffi.proofs.place_calls.vrd_rand_slice_in.Statement.{statement}
-use Rattle.vrd_ffi.proofs.place_calls.vrd_rand_slice_in.Tie as tie
+use Rattle.vrd_ffi.proofs.slice_calls.vrd_rand_slice_in.Statement.{statement}
+use Rattle.vrd_ffi.proofs.slice_calls.vrd_rand_slice_in.Tie as tie
 
 rand-slice-by-library-requires : tie.Need-rand-slice-by-library-requires
 rand-slice-by-library-requires c κs = search needs

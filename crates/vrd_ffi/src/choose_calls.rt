@@ -1,13 +1,12 @@
-// A place of a list of the caller's: an entry chosen, and the start of a part.
+// An entry of a list of the caller's, chosen; and how long a list may be.
 ghost use lib.ListN.{length, getD};
 ghost use mathlib.Core.Path.{_≡_};
 ghost use Prim.Native.Nat.{_<_};
 ghost use Rattle.vrd_ffi.specs.Choosing.{entryOf, Within};
-ghost use Rattle.vrd_ffi.specs.Promises.{VrdChoosePromise, VrdRandSlicePromise, VrdListLimitPromise};
+ghost use Rattle.vrd_ffi.specs.Promises.{VrdChoosePromise, VrdListLimitPromise};
 use crate::answers::Choice;
 use crate::answers::Number;
 use crate::answers::choice_apart;
-use crate::answers::number_apart;
 use crate::drawing::drawn_from;
 use crate::drawing::number_of;
 use crate::first_word::MISS;
@@ -110,57 +109,4 @@ pub extern "C" fn vrd_choose_in(
         return chosen(list, one);
     }
     chosen(list, number_of(p))
-}
-
-// The call by the library: a list or a window that it refuses.
-fn rand_slice_by_library(
-    state: &mut [u64; 6],
-    table: &mut [u32; 624],
-    list: &[u32],
-    window: usize,
-    budget: u32,
-) -> Number
-    ensures { λ a. ⌜ VrdRandSlicePromise (now (state .entry)) (now (table .entry)) (now (list .entry)) window budget a
-        (now (state .exit)) (now (table .exit)) ⌝ }
-{
-    if state[0] > 3 {
-        return Number {
-            value: 0,
-            used: 0,
-            refusal: refusal::KIND,
-        };
-    }
-    let a = lists::rand_slice_in(engine_in(state), table, list, window, budget);
-    let e = a.next;
-    settle(a.refusal, e, state);
-    Number {
-        value: a.start as u64,
-        used: a.used,
-        refusal: a.refusal,
-    }
-}
-
-// Where a part of the list starts that is window long.
-#[no_mangle]
-pub extern "C" fn vrd_rand_slice_in(
-    state: &mut [u64; 6],
-    table: &mut [u32; 624],
-    list: &[u32],
-    window: usize,
-    budget: u32,
-) -> Number
-    ensures { λ a. ⌜ VrdRandSlicePromise (now (state .entry)) (now (table .entry)) (now (list .entry)) window budget a
-        (now (state .exit)) (now (table .exit)) ⌝ }
-{
-    let n = list.len();
-    if n > lists::limit::LIST_LIMIT {
-        return number_apart(rand_slice_by_library(state, table, list, window, budget));
-    }
-    if window == 0 {
-        return number_apart(rand_slice_by_library(state, table, list, window, budget));
-    }
-    if window > n {
-        return number_apart(rand_slice_by_library(state, table, list, window, budget));
-    }
-    number_of(drawn_from(state, table, (n - window + 1) as u32, budget, 0))
 }

@@ -3,8 +3,8 @@ use borrow.Author.Needs.{needs}
 use mathlib.Core.Path.{ap}
 use Rattle.vrd_ffi.specs.AnswersLaws.{unknown-kind, settled}
 use Rattle.vrd_ffi.specs.Handed.{startOf}
-use Rattle.vrd_ffi.proofs.place_calls.rand_slice_by_library.Statement.{statement}
-use Rattle.vrd_ffi.proofs.place_calls.rand_slice_by_library.Tie as tie
+use Rattle.vrd_ffi.proofs.slice_calls.rand_slice_by_library.Statement.{statement}
+use Rattle.vrd_ffi.proofs.slice_calls.rand_slice_by_library.Tie as tie
 
 element-copy-out-if1 : tie.Need-element-copy-out-if1
 element-copy-out-if1 c = search needs

@@ -1,8 +1,8 @@
 -- `chosen` meets its contract: answered, and refused.
 use borrow.Author.Needs.{needs}
 use borrow.Author.Tests.{ne-eqb}
-use Rattle.vrd_ffi.proofs.place_calls.chosen.Statement.{statement}
-use Rattle.vrd_ffi.proofs.place_calls.chosen.Tie as tie
+use Rattle.vrd_ffi.proofs.choose_calls.chosen.Statement.{statement}
+use Rattle.vrd_ffi.proofs.choose_calls.chosen.Tie as tie
 
 entry-at-requires : tie.Need-entry-at-requires
 entry-at-requires c κs = c .before .before .before .pre (c .if1 .taken)

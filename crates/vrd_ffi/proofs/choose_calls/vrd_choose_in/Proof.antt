@@ -4,8 +4,8 @@ use mathlib.Core.Path.{sym}
 use native.Mathlib.Omega.{arith}
 use Rattle.vrd_ffi.specs.DrawLaws.{choice-drawn, number-below}
 use Rattle.vrd_ffi.specs.PackedLaws.{says-one}
-use Rattle.vrd_ffi.proofs.place_calls.vrd_choose_in.Statement.{statement}
-use Rattle.vrd_ffi.proofs.place_calls.vrd_choose_in.Tie as tie
+use Rattle.vrd_ffi.proofs.choose_calls.vrd_choose_in.Statement.{statement}
+use Rattle.vrd_ffi.proofs.choose_calls.vrd_choose_in.Tie as tie
 
 choose-by-library-requires : tie.Need-choose-by-library-requires
 choose-by-library-requires c κs = search needs
