@@ -1,14 +1,14 @@
--- `first_good` is safe and ends: the budget falls.
-use borrow.Author.Needs.{needs}
+-- `drawn` is safe and ends: the budget falls.
 use Prim.Native.Nat.{_≤_, _-_}
-use Rattle.refusals.proofs.order.first_good.Statement.{statement}
-use Rattle.refusals.proofs.order.first_good.Tie as tie
+use borrow.Author.Needs.{needs}
+use Rattle.refusals.proofs.order.drawn.Statement.{statement}
+use Rattle.refusals.proofs.order.drawn.Tie as tie
 
 abbrev Inv-loop : tie.InvT-loop
-Inv-loop r budget next₀ used₀ next used = used ≤ budget
+Inv-loop g r budget next₀ used₀ next used = used ≤ budget
 
 abbrev μ-loop : tie.MeasureT-loop
-μ-loop r budget next₀ used₀ next used = budget - used
+μ-loop g r budget next₀ used₀ next used = budget - used
 
 loop-holds : tie.Need-loop-holds Inv-loop μ-loop
 loop-holds c = search needs
@@ -28,8 +28,8 @@ add-used c = search needs
 is-good-requires : tie.Need-is-good-requires Inv-loop μ-loop
 is-good-requires c κs = search needs
 
-cast-t12 : tie.Need-cast-t12 Inv-loop μ-loop
-cast-t12 c = search needs
+tell-requires : tie.Need-tell-requires Inv-loop μ-loop
+tell-requires c κs = search needs
 
 returns : tie.Need-returns Inv-loop μ-loop
 returns c = search needs
@@ -40,11 +40,14 @@ loop-less c = search needs
 loop-again : tie.Need-loop-again Inv-loop μ-loop
 loop-again c = search needs
 
+only-requires : tie.Need-only-requires Inv-loop μ-loop
+only-requires c κs = search needs
+
 returns-2 : tie.Need-returns-2 Inv-loop μ-loop
 returns-2 c = search needs
 
-pub first-good-spec : {M : Type 1} → statement M
-first-good-spec =
+pub drawn-spec : {M : Type 1} → statement M
+drawn-spec =
     tie.close
     (tie.spec
     Inv-loop
@@ -55,8 +58,9 @@ first-good-spec =
     mul-u64-requires
     add-used
     is-good-requires
-    cast-t12
+    tell-requires
     returns
     loop-less
     loop-again
+    only-requires
     returns-2)
