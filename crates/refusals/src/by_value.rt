@@ -1,55 +1,65 @@
 // The calls by value.
 use crate::calls;
 use crate::order;
-use crate::table;
 use crate::table::Row;
 use crate::told::Told;
-use crate::told::one_if;
 use crate::told::only;
-use crate::told::tell;
 use bounded::Answer;
 use floats::Interval;
 use floats::Uniform;
 use random::Random;
-use signed::signed_u32;
 use spans::IntAnswer;
 
 fn of_answer(a: Answer) -> Told {
     let next = a.next;
-    tell(a.refusal, 0, a.value as u64, a.used, next)
+    Told {
+        refusal: a.refusal,
+        place: 0,
+        value: a.value as u64,
+        used: a.used,
+        next,
+    }
 }
 
 // A signed number as the word that reads so.
 pub(crate) fn word_of(n: i32) -> u64 {
-    let above_least = signed::span_of(signed_u32(0x8000_0000), n);
+    let above_least = signed::span_of(signed::signed_u32(0x8000_0000), n);
     std::num::wrapping_add_u32(above_least, 0x8000_0000) as u64
 }
 
 fn of_int(a: IntAnswer) -> Told {
     let next = a.next;
-    tell(a.refusal, 0, word_of(a.value), a.used, next)
+    Told {
+        refusal: a.refusal,
+        place: 0,
+        value: word_of(a.value),
+        used: a.used,
+        next,
+    }
 }
 
 // What `uniform` answered: the number's bit pattern, or the refusal.
 pub(crate) fn of_uniform(answer: Uniform, next: Random) -> Told {
+    let mut told = only(0, next);
     match answer {
-        Uniform::Number(number) => tell(0, 0, float_bits::pattern_of(number), 0, next),
-        Uniform::Refused(refusal) => only(refusal, next),
+        Uniform::Number(number) => told.value = float_bits::pattern_of(number),
+        Uniform::Refused(refusal) => told.refusal = refusal,
     }
+    told
 }
 
 pub(crate) fn interval_of(row: Row) -> Interval {
     Interval {
-        low: table::float(row.first),
-        high: table::float(row.second),
+        low: row.first.float,
+        high: row.second.float,
     }
 }
 
 fn ask_number(call: usize, row: Row, g: Random, budget: u32) -> Told {
-    let min = table::word(row.first);
-    let max = table::word(row.second);
-    let low = signed_u32(min);
-    let high = signed_u32(max);
+    let min = row.first.word;
+    let max = row.second.word;
+    let low = row.first.signed;
+    let high = row.second.signed;
     match call {
         calls::BOUNDED => of_answer(bounded::bounded(g, max, budget)),
         calls::RANDOM_RANGE => of_answer(bounded::random_range(g, min, max, budget)),
@@ -60,57 +70,73 @@ fn ask_number(call: usize, row: Row, g: Random, budget: u32) -> Told {
     }
 }
 
-fn ask_unbudgeted(call: usize, row: Row, g: Random) -> Told {
-    let number = table::word(row.first);
+fn ask_list(call: usize, row: Row, g: Random, list: &mut [u32], budget: u32) -> Told {
     match call {
-        calls::BOOL => {
-            let f = float_draws::bool(g, table::float(row.first));
-            let next = f.next;
-            tell(f.refusal, 0, one_if(f.value), f.used, next)
+        calls::CHOOSE => {
+            let a = lists::choose(g, list, budget);
+            let next = a.next;
+            Told {
+                refusal: a.refusal,
+                place: a.place as u64,
+                value: a.value as u64,
+                used: a.used,
+                next,
+            }
         }
-        calls::UNIFORM => {
-            let s = float_draws::uniform(g, interval_of(row));
-            let answer = s.answer;
-            let next = s.next;
-            of_uniform(answer, next)
+        calls::SHUFFLE => of_answer(shuffle::shuffle(g, list, budget)),
+        _ => {
+            let a = lists::rand_slice(g, list, row.window, budget);
+            let next = a.next;
+            Told {
+                refusal: a.refusal,
+                place: a.start as u64,
+                value: 0,
+                used: a.used,
+                next,
+            }
         }
-        calls::SPLIT => {
-            let s = parts::split(g);
-            let parent = s.parent;
-            let child = s.child;
-            tell(
-                s.refusal,
-                0,
-                order::is_child(child, s.refusal, g),
-                0,
-                parent,
-            )
-        }
-        calls::SEED => only(0, making::seed(g, number)),
-        calls::SET_MTI => only(0, parts::set_mti(g, number)),
-        _ => only(0, filling::fill_bytes(g, &mut [0u8; 0])),
+    }
+}
+
+fn ask_float(call: usize, row: Row, g: Random) -> Told {
+    if call == calls::BOOL {
+        let f = float_draws::bool(g, row.first.float);
+        let next = f.next;
+        return Told {
+            refusal: f.refusal,
+            place: 0,
+            value: f.value as u64,
+            used: f.used,
+            next,
+        };
+    }
+    let s = float_draws::uniform(g, interval_of(row));
+    let answer = s.answer;
+    let next = s.next;
+    of_uniform(answer, next)
+}
+
+fn ask_split(g: Random) -> Told {
+    let s = parts::split(g);
+    let next = s.parent;
+    let child = s.child;
+    Told {
+        refusal: s.refusal,
+        place: 0,
+        value: order::is_child(child, s.refusal, g),
+        used: 0,
+        next,
     }
 }
 
 pub(crate) fn ask(call: usize, row: Row, g: Random, list: &mut [u32], budget: u32) -> Told {
     match call {
-        calls::CHOOSE => {
-            let a = lists::choose(g, list, budget);
-            let next = a.next;
-            tell(a.refusal, a.place as u64, a.value as u64, a.used, next)
-        }
-        calls::SHUFFLE => of_answer(shuffle::shuffle(g, list, budget)),
-        calls::RAND_SLICE => {
-            let a = lists::rand_slice(g, list, row.window, budget);
-            let next = a.next;
-            tell(a.refusal, a.start as u64, 0, a.used, next)
-        }
-        calls::BOOL
-        | calls::UNIFORM
-        | calls::SPLIT
-        | calls::SEED
-        | calls::SET_MTI
-        | calls::FILL_BYTES => { ask_unbudgeted(call, row, g) }
+        calls::CHOOSE | calls::SHUFFLE | calls::RAND_SLICE => ask_list(call, row, g, list, budget),
+        calls::BOOL | calls::UNIFORM => ask_float(call, row, g),
+        calls::SPLIT => ask_split(g),
+        calls::SEED => only(0, making::seed(g, row.first.word)),
+        calls::SET_MTI => only(0, parts::set_mti(g, row.first.word)),
+        calls::FILL_BYTES => only(0, filling::fill_bytes(g, &mut [0u8; 0])),
         _ => ask_number(call, row, g, budget),
     }
 }

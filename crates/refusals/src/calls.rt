@@ -33,7 +33,10 @@ pub(crate) const MAKE: usize = 15;
 
 pub(crate) const WINDOW_OF: usize = 16;
 
-// The number of the call whose name stands at a place of the table; past the last one where it is none. Names have 16 letters each, and the
+// A name that is none of them.
+pub(crate) const NONE: usize = 17;
+
+// The number of the call whose name stands at a place of the table. Names have 16 letters each, and the
 // first eight tell them apart.
 pub(crate) fn number_at(text: &[u8], at: usize) -> usize {
     let names = b"bounded         \
@@ -54,15 +57,14 @@ pub(crate) fn number_at(text: &[u8], at: usize) -> usize {
         make            \
         window_of       ";
     let name = wrapping::le_u64(text, at);
-    let count = names.len() / 16;
     let mut call: usize = 0;
-    while call < count {
+    while call < NONE {
         if wrapping::le_u64(names, 16 * call) == name {
             return call;
         }
         call += 1;
     }
-    count
+    NONE
 }
 
 // Whether a call takes a budget.

@@ -135,16 +135,8 @@ pub(crate) fn same_generator(a: Random, b: Random) -> bool {
     }
     let x = parts::small_words(first);
     let y = parts::small_words(second);
-    if x.w0 != y.w0 {
-        return false;
-    }
-    if x.w1 != y.w1 {
-        return false;
-    }
-    if x.w2 != y.w2 {
-        return false;
-    }
-    if x.w3 != y.w3 {
+    let small = (x.w0 ^ y.w0) | (x.w1 ^ y.w1) | (x.w2 ^ y.w2) | (x.w3 ^ y.w3);
+    if small != 0 {
         return false;
     }
     if a.twister.mti != b.twister.mti {

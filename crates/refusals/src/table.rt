@@ -1,12 +1,17 @@
 // The table: rows of numbers below headings.
-ghost use Prim.Native.Nat.{_≤_};
-ghost use lib.ListN.{length};
+// One of a call's numbers, in the types that calls take: whole, its low 32 bits, those read as signed, and the float of which it is the bit pattern.
+pub(crate) struct Argument {
+    pub(crate) whole: u64,
+    pub(crate) word: u32,
+    pub(crate) signed: i32,
+    pub(crate) float: f64,
+}
 
 // A call's arguments and what document 01 orders, as the head of the table says.
 pub(crate) struct Row {
     pub(crate) line: u64,
-    pub(crate) first: u64,
-    pub(crate) second: u64,
+    pub(crate) first: Argument,
+    pub(crate) second: Argument,
     pub(crate) length: usize,
     pub(crate) window: usize,
     pub(crate) refused: u32,
@@ -84,8 +89,27 @@ fn number_from(text: &[u8], from: usize) -> Number {
 }
 
 // The low 32 bits.
-pub(crate) fn word(n: u64) -> u32 {
+fn low_word(n: u64) -> u32 {
     (n % 0x1_0000_0000) as u32
+}
+
+// The float with a bit pattern, NaN among them.
+fn float_of(pattern: u64) -> f64 {
+    if pattern % 0x8000_0000_0000_0000 > 0x7FF0_0000_0000_0000 {
+        let infinity = 1.0 / 0.0;
+        return infinity - infinity;
+    }
+    float_bits::number_of(pattern)
+}
+
+fn read_as(n: u64) -> Argument {
+    let word = low_word(n);
+    Argument {
+        whole: n,
+        word,
+        signed: signed::signed_u32(word),
+        float: float_of(n),
+    }
 }
 
 // The letter at a place; a line's end past the last.
@@ -104,38 +128,16 @@ pub(crate) fn row_at(text: &[u8], from: usize, line: u64) -> Row {
     let refused = number_from(text, window.end);
     let below = number_from(text, refused.end);
     let budget = number_from(text, below.end);
+    let one = read_as(first.value);
+    let other = read_as(second.value);
     Row {
         line,
-        first: first.value,
-        second: second.value,
+        first: one,
+        second: other,
         length: length.value as usize,
         window: window.value as usize,
-        refused: word(refused.value),
+        refused: low_word(refused.value),
         below: below.value,
-        budget: word(budget.value),
+        budget: low_word(budget.value),
     }
-}
-
-// Where a line ends: at its `\n`, or at the end of the text.
-pub(crate) fn line_end(text: &[u8], from: usize) -> usize
-    requires { ⌜ from ≤ length (now text) ⌝ }
-    ensures { λ r. ⌜ (from ≤ r) × (r ≤ length (now (text .entry))) ⌝ }
-{
-    let mut end = from;
-    while end < text.len() {
-        if text[end] == b'\n' {
-            break;
-        }
-        end += 1;
-    }
-    end
-}
-
-// The float with a bit pattern, NaN among them.
-pub(crate) fn float(pattern: u64) -> f64 {
-    if pattern % 0x8000_0000_0000_0000 > 0x7FF0_0000_0000_0000 {
-        let infinity = 1.0 / 0.0;
-        return infinity - infinity;
-    }
-    float_bits::number_of(pattern)
 }

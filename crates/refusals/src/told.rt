@@ -10,36 +10,24 @@ pub(crate) struct Told {
     pub(crate) next: Random,
 }
 
-pub(crate) fn tell(refusal: u32, place: u64, value: u64, used: u32, next: Random) -> Told {
+// Nothing but a refusal, or 0, and a generator: what is refused gives the one that came in.
+pub(crate) fn only(refusal: u32, next: Random) -> Told {
     Told {
         refusal,
-        place,
-        value,
-        used,
+        place: 0,
+        value: 0,
+        used: 0,
         next,
     }
 }
 
-// Nothing but a refusal, or 0, and a generator: what is refused gives the one that came in.
-pub(crate) fn only(refusal: u32, g: Random) -> Told {
-    tell(refusal, 0, 0, 0, g)
-}
-
-pub(crate) fn one_if(holds: bool) -> u64 {
-    if holds { 1 } else { 0 }
-}
-
 pub(crate) fn same_told(a: Told, b: Told) -> bool {
-    if a.refusal != b.refusal {
+    let words = (a.place ^ b.place) | (a.value ^ b.value);
+    let counts = (a.refusal ^ b.refusal) | (a.used ^ b.used);
+    if words != 0 {
         return false;
     }
-    if a.place != b.place {
-        return false;
-    }
-    if a.value != b.value {
-        return false;
-    }
-    if a.used != b.used {
+    if counts != 0 {
         return false;
     }
     let first = a.next;

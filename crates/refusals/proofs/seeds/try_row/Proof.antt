@@ -10,11 +10,11 @@ Inv-loop row seed t₀ n₀ t n = n ≤ 41
 abbrev μ-loop : tie.MeasureT-loop
 μ-loop row seed t₀ n₀ t n = 41 - n
 
-slice-aggregate-fill-by-number : tie.Need-slice-aggregate-fill-by-number Inv-loop μ-loop
-slice-aggregate-fill-by-number c = search needs
+slice-aggregate-fill : tie.Need-slice-aggregate-fill Inv-loop μ-loop
+slice-aggregate-fill c = search needs
 
-fill-by-number-requires : tie.Need-fill-by-number-requires Inv-loop μ-loop
-fill-by-number-requires c κs = search needs
+fill-requires : tie.Need-fill-requires Inv-loop μ-loop
+fill-requires c κs = search needs
 
 none-requires : tie.Need-none-requires Inv-loop μ-loop
 none-requires c κs = search needs
@@ -34,17 +34,8 @@ part-is-as-ordered-end c = search needs
 is-as-ordered-requires : tie.Need-is-as-ordered-requires Inv-loop μ-loop
 is-as-ordered-requires c κs = search needs
 
-word-requires : tie.Need-word-requires Inv-loop μ-loop
-word-requires c κs = search needs
-
-write-failed-requires : tie.Need-write-failed-requires Inv-loop μ-loop
-write-failed-requires c κs = search needs
-
-one-requires : tie.Need-one-requires Inv-loop μ-loop
-one-requires c κs = search needs
-
-added-requires : tie.Need-added-requires Inv-loop μ-loop
-added-requires c κs = search needs
+counted-requires : tie.Need-counted-requires Inv-loop μ-loop
+counted-requires c κs = search needs
 
 add-n : tie.Need-add-n Inv-loop μ-loop
 add-n c = search needs
@@ -64,18 +55,15 @@ try-row-spec =
     (tie.spec
     Inv-loop
     μ-loop
-    slice-aggregate-fill-by-number
-    fill-by-number-requires
+    slice-aggregate-fill
+    fill-requires
     none-requires
     loop-holds
     sub-is-as-ordered
     part-is-as-ordered-start
     part-is-as-ordered-end
     is-as-ordered-requires
-    word-requires
-    write-failed-requires
-    one-requires
-    added-requires
+    counted-requires
     add-n
     loop-less
     loop-again

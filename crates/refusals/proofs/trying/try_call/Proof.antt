@@ -36,9 +36,6 @@ array-read-budget c = search needs
 try-once-requires : tie.Need-try-once-requires Inv-loop μ-loop
 try-once-requires c κs = search needs
 
-added-requires : tie.Need-added-requires Inv-loop μ-loop
-added-requires c κs = search needs
-
 add-number : tie.Need-add-number Inv-loop μ-loop
 add-number c = search needs
 
@@ -71,7 +68,6 @@ try-call-spec =
     mul-budget
     array-read-budget
     try-once-requires
-    added-requires
     add-number
     loop-less
     loop-again

@@ -1,16 +1,16 @@
--- `try_table` is safe and ends: each line ends after it begins, and the lists keep their lengths.
+-- `try_table` is safe and ends: the place rises to the end of the text, and the lists keep their lengths.
 use lib.ListN.{length}
 use mathlib.Core.Path.{_≡_}
-use Prim.Native.Nat.{_≤_, _-_, _+_}
+use Prim.Native.Nat.{_≤_, _-_}
 use borrow.Author.Needs.{needs}
 use Rattle.refusals.proofs.trying.try_table.Statement.{statement}
 use Rattle.refusals.proofs.trying.try_table.Tie as tie
 
 abbrev Inv-loop : tie.InvT-loop
-Inv-loop text list₀ wanted₀ run₀ at₀ list wanted run at = (at ≤ length text + 1) × (length list ≡ length list₀) × (length wanted ≡ length wanted₀)
+Inv-loop text list₀ wanted₀ run₀ at₀ list wanted run at = (at ≤ length text) × (length list ≡ length list₀) × (length wanted ≡ length wanted₀)
 
 abbrev μ-loop : tie.MeasureT-loop
-μ-loop text list₀ wanted₀ run₀ at₀ list wanted run at = length text + 1 - at
+μ-loop text list₀ wanted₀ run₀ at₀ list wanted run at = length text - at
 
 none-requires : tie.Need-none-requires Inv-loop μ-loop
 none-requires c κs = search needs
@@ -21,11 +21,8 @@ none-requires-2 c κs = search needs
 loop-holds : tie.Need-loop-holds Inv-loop μ-loop
 loop-holds c = search needs
 
-take-line-requires : tie.Need-take-line-requires Inv-loop μ-loop
-take-line-requires c κs = search needs
-
-line-end-requires : tie.Need-line-end-requires Inv-loop μ-loop
-line-end-requires c κs = search needs
+take-letter-requires : tie.Need-take-letter-requires Inv-loop μ-loop
+take-letter-requires c κs = search needs
 
 add-at : tie.Need-add-at Inv-loop μ-loop
 add-at c = search needs
@@ -60,8 +57,7 @@ try-table-spec =
     none-requires
     none-requires-2
     loop-holds
-    take-line-requires
-    line-end-requires
+    take-letter-requires
     add-at
     loop-less
     loop-again
