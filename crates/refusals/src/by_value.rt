@@ -7,6 +7,8 @@ use crate::told::only;
 use bounded::Answer;
 use floats::Interval;
 use floats::Uniform;
+use lists::Chosen;
+use lists::SliceStart;
 use random::Random;
 use spans::IntAnswer;
 
@@ -70,31 +72,25 @@ fn ask_number(call: usize, row: Row, g: Random, budget: u32) -> Told {
     }
 }
 
-fn ask_list(call: usize, row: Row, g: Random, list: &mut [u32], budget: u32) -> Told {
-    match call {
-        calls::CHOOSE => {
-            let a = lists::choose(g, list, budget);
-            let next = a.next;
-            Told {
-                refusal: a.refusal,
-                place: a.place as u64,
-                value: a.value as u64,
-                used: a.used,
-                next,
-            }
-        }
-        calls::SHUFFLE => of_answer(shuffle::shuffle(g, list, budget)),
-        _ => {
-            let a = lists::rand_slice(g, list, row.window, budget);
-            let next = a.next;
-            Told {
-                refusal: a.refusal,
-                place: a.start as u64,
-                value: 0,
-                used: a.used,
-                next,
-            }
-        }
+fn of_choice(a: Chosen) -> Told {
+    let next = a.next;
+    Told {
+        refusal: a.refusal,
+        place: a.place as u64,
+        value: a.value as u64,
+        used: a.used,
+        next,
+    }
+}
+
+fn of_start(a: SliceStart) -> Told {
+    let next = a.next;
+    Told {
+        refusal: a.refusal,
+        place: a.start as u64,
+        value: 0,
+        used: a.used,
+        next,
     }
 }
 
@@ -129,14 +125,28 @@ fn ask_split(g: Random) -> Told {
     }
 }
 
-pub(crate) fn ask(call: usize, row: Row, g: Random, list: &mut [u32], budget: u32) -> Told {
+fn change(call: usize, row: Row, g: Random) -> Random {
     match call {
-        calls::CHOOSE | calls::SHUFFLE | calls::RAND_SLICE => ask_list(call, row, g, list, budget),
+        calls::SEED => making::seed(g, row.first.word),
+        calls::SET_MTI => parts::set_mti(g, row.first.word),
+        _ => filling::fill_bytes(g, &mut [0u8; 0]),
+    }
+}
+
+fn ask_unlisted(call: usize, row: Row, g: Random, budget: u32) -> Told {
+    match call {
         calls::BOOL | calls::UNIFORM => ask_float(call, row, g),
         calls::SPLIT => ask_split(g),
-        calls::SEED => only(0, making::seed(g, row.first.word)),
-        calls::SET_MTI => only(0, parts::set_mti(g, row.first.word)),
-        calls::FILL_BYTES => only(0, filling::fill_bytes(g, &mut [0u8; 0])),
+        calls::SEED | calls::SET_MTI | calls::FILL_BYTES => only(0, change(call, row, g)),
         _ => ask_number(call, row, g, budget),
+    }
+}
+
+pub(crate) fn ask(call: usize, row: Row, g: Random, list: &mut [u32], budget: u32) -> Told {
+    match call {
+        calls::CHOOSE => of_choice(lists::choose(g, list, budget)),
+        calls::SHUFFLE => of_answer(shuffle::shuffle(g, list, budget)),
+        calls::RAND_SLICE => of_start(lists::rand_slice(g, list, row.window, budget)),
+        _ => ask_unlisted(call, row, g, budget),
     }
 }

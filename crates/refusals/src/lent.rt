@@ -142,6 +142,14 @@ fn ask_split(e: Engine, mt: &[u32; 624]) -> Lent {
     }
 }
 
+fn change(call: usize, row: Row, e: Engine, mt: &mut [u32; 624]) -> Engine {
+    match call {
+        calls::SEED => making::seed_in(e, mt, row.first.word),
+        calls::SET_MTI => parts::set_mti_in(e, row.first.word),
+        _ => filling::fill_bytes_in(e, mt, &mut [0u8; 0]),
+    }
+}
+
 fn ask_in(
     call: usize,
     row: Row,
@@ -151,19 +159,12 @@ fn ask_in(
     budget: u32,
 ) -> Lent {
     match call {
-        calls::CHOOSE | calls::SHUFFLE | calls::RAND_SLICE => ask_list(
-            call,
-            row,
-            e,
-            mt,
-            list,
-            budget,
-        ),
+        calls::CHOOSE | calls::SHUFFLE | calls::RAND_SLICE => {
+            ask_list(call, row, e, mt, list, budget)
+        }
         calls::BOOL | calls::UNIFORM => ask_float(call, row, e, mt),
         calls::SPLIT => ask_split(e, mt),
-        calls::SEED => only(making::seed_in(e, mt, row.first.word)),
-        calls::SET_MTI => only(parts::set_mti_in(e, row.first.word)),
-        calls::FILL_BYTES => only(filling::fill_bytes_in(e, mt, &mut [0u8; 0])),
+        calls::SEED | calls::SET_MTI | calls::FILL_BYTES => only(change(call, row, e, mt)),
         _ => ask_number(call, row, e, mt, budget),
     }
 }
