@@ -34,8 +34,8 @@ fn swap(list: &mut [u32], i: u64, j: u64) {
     }
 }
 
-// Draws one after the other: below r, one less, and so on down to `last`, each from the first good word that is left of the budget, with the swap
-// of a shuffle. The value is the last quotient; where the budget ends first, the refusal is 8.
+// Draws one after the other: below r, one less, and so on down to `last`, each from the first good word that is left of the budget,
+// with the swap of a shuffle. The value is the last quotient; where the budget ends first, the refusal is 8.
 fn drawn(g: Random, below: u64, last: u64, budget: u32, list: &mut [u32]) -> Told {
     let mut next = g;
     let mut used: u32 = 0;
@@ -99,8 +99,8 @@ pub(crate) fn at_most(n: usize, limit: usize) -> usize
     if n < limit { n } else { limit }
 }
 
-// A call with a budget. A shuffle draws below the length, one less, and so on down to 2, and swaps; the others draw once, or not at all where `below`
-// is 0.
+// A call with a budget. A shuffle draws below the length, one less, and so on down to 2, and swaps; the others draw once, or not at all
+// where `below` is 0.
 fn budgeted(call: usize, row: Row, g: Random, budget: u32, list: &mut [u32]) -> Told {
     let mut last = row.below;
     let mut swapped: usize = 0;
@@ -120,8 +120,8 @@ fn budgeted(call: usize, row: Row, g: Random, budget: u32, list: &mut [u32]) -> 
     answer(call, row, d, list)
 }
 
-// The call on the next double: `bool` whether it is below p, `uniform` low + (high - low) * double. A double takes one word of kinds 0 and 3 and two
-// of kinds 1 and 2.
+// The call on the next double: `bool` whether it is below p, `uniform` low + (high - low) * double. A double takes one word of kinds 0
+// and 3 and two of kinds 1 and 2.
 fn of_double(call: usize, row: Row, g: Random, kind: u32) -> Told {
     let double = floats::double_of(random::u64(g).word);
     let mut used: u32 = 1;
@@ -152,8 +152,8 @@ fn seeded(kind: u32, number: u32) -> Backend {
     }
 }
 
-// The calls that change a generator and draw nothing: `seed` makes it anew by the kind's own call and keeps what the kind does not use, `set_mti` sets
-// the twister's position, at most 624, and does nothing on the other kinds; `fill_bytes`, of nothing, uses no word.
+// The calls that change a generator and draw nothing: `seed` makes it anew by the kind's own call and keeps what the kind does not use,
+// `set_mti` sets the twister's position, at most 624, and does nothing on the other kinds; `fill_bytes`, of nothing, uses no word.
 fn changed(call: usize, row: Row, g: Random, kind: u32) -> Random {
     let number = row.first.word;
     let mut twister = g.twister;

@@ -22,8 +22,8 @@ fn write_part(name: &[u8], n: u64) {
     io::print_decimal(STDOUT_FILENO, n);
 }
 
-// One case more. Where it is not as ordered: the row's line in the table; its try, which is 8 times the generator's number, and on it first by value,
-// then over a lent table, four budgets; and the budget, or for `make` the bytes of the seed.
+// One case more. Where it is not as ordered: the row's line in the table; its try, which is 8 times the generator's number, and on it
+// first by value, then over a lent table, four budgets; and the budget, or for `make` the bytes of the seed.
 pub(crate) fn counted(t: Tally, right: bool, line: u64, number: u32, budget: u64) -> Tally {
     if right {
         return added(t, Tally { right: 1, of: 1 });

@@ -1,5 +1,5 @@
-// The table: rows of numbers below headings.
-// One of a call's numbers, in the types that calls take: whole, its low 32 bits, those read as signed, and the float of which it is the bit pattern.
+// The table: rows of numbers below headings. One of a call's numbers, in the types that calls take: whole, its low 32 bits, those read
+// as signed, and the float of which it is the bit pattern.
 pub(crate) struct Argument {
     pub(crate) whole: u64,
     pub(crate) word: u32,
@@ -44,7 +44,8 @@ fn digit_of(letter: u8) -> u64 {
     0
 }
 
-// One letter more: a sign, the `x` of `0x`, or a digit. A space before it is passed over; a space after it, the line's end or a comment ends it.
+// One letter more: a sign, the `x` of `0x`, or a digit. A space before it is passed over; a space after it, the line's end or a comment
+// ends it.
 fn read_on(n: Reading, letter: u8) -> Reading {
     let mut r = n;
     match letter {

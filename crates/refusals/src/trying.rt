@@ -42,9 +42,9 @@ fn is_left_out(call: usize, row: Row, number: u32) -> bool {
     number % BUDGETS != 0
 }
 
-// The budgets of a try: those of the try before it, but for a generator's first. There: the row's own, 0 where the call takes none, and otherwise one
-// short of what the row needs, just that, one more, and the largest. Where it needs no word, or is refused at any budget, or no word is ever good:
-// 0, 1, and two large ones.
+// The budgets of a try: those of the try before it, but for a generator's first. There: the row's own, 0 where the call takes none, and
+// otherwise one short of what the row needs, just that, one more, and the largest. Where it needs no word, or is refused at any budget,
+// or no word is ever good: 0, 1, and two large ones.
 fn budgets_at(
     before: [u32; 4],
     call: usize,

@@ -7,7 +7,8 @@ use Rattle.refusals.proofs.trying.try_call.Statement.{statement}
 use Rattle.refusals.proofs.trying.try_call.Tie as tie
 
 abbrev Inv-loop : tie.InvT-loop
-Inv-loop call row list₀ wanted₀ budgets₀ t₀ number₀ list wanted budgets t number = (number ≤ 128) × (length list ≡ length list₀) × (length wanted ≡ length wanted₀)
+Inv-loop call row list₀ wanted₀ budgets₀ t₀ number₀ list wanted budgets t number =
+    (number ≤ 128) × (length list ≡ length list₀) × (length wanted ≡ length wanted₀)
 
 abbrev μ-loop : tie.MeasureT-loop
 μ-loop call row list₀ wanted₀ budgets₀ t₀ number₀ list wanted budgets t number = 128 - number

@@ -7,7 +7,8 @@ use Rattle.refusals.proofs.trying.try_table.Statement.{statement}
 use Rattle.refusals.proofs.trying.try_table.Tie as tie
 
 abbrev Inv-loop : tie.InvT-loop
-Inv-loop text list₀ wanted₀ run₀ at₀ list wanted run at = (at ≤ length text) × (length list ≡ length list₀) × (length wanted ≡ length wanted₀)
+Inv-loop text list₀ wanted₀ run₀ at₀ list wanted run at =
+    (at ≤ length text) × (length list ≡ length list₀) × (length wanted ≡ length wanted₀)
 
 abbrev μ-loop : tie.MeasureT-loop
 μ-loop text list₀ wanted₀ run₀ at₀ list wanted run at = length text - at
