@@ -35,6 +35,11 @@ pub(crate) fn counted(t: Tally, right: bool, line: u64, number: u32, budget: u64
     added(t, Tally { right: 0, of: 1 })
 }
 
+// The one case of a row.
+pub(crate) fn one(right: bool, line: u64) -> Tally {
+    counted(none(), right, line, 0, 0)
+}
+
 // The heading at a place of the table: 16 letters on the refusal, and after two spaces 16 on the call.
 pub(crate) fn write_heading(text: &[u8], from: usize) {
     if from <= text.len() {

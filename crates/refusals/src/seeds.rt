@@ -36,26 +36,28 @@ fn fill(seed: &mut [u8], number: u64) {
     }
 }
 
-// The generator by the kind's own call over an array of the exact length.
-fn own_call(kind: u64, number: u64) -> Random {
+// The kind's own call over an array of the exact length; the twister stands beside its backend.
+fn own_backend(kind: u64, number: u64) -> Backend {
     let mut short = [0u8; 16];
     let mut long = [0u8; 32];
     fill(&mut short, number);
     fill(&mut long, number);
     match kind {
-        0 => generators::beside_zeros(Backend::Xoshiro256PlusPlus(Xoshiro256PlusPlus::from_seed(
-            long,
-        ))),
-        1 => {
-            let twister = MersenneTwister::from_seed(long);
-            Random {
-                backend: Backend::MersenneTwister,
-                twister,
-            }
-        }
-        2 => generators::beside_zeros(Backend::Pcg32(Pcg32::from_seed(short))),
-        _ => generators::beside_zeros(Backend::Pcg64(Pcg64::from_seed(long))),
+        0 => Backend::Xoshiro256PlusPlus(Xoshiro256PlusPlus::from_seed(long)),
+        1 => Backend::MersenneTwister,
+        2 => Backend::Pcg32(Pcg32::from_seed(short)),
+        _ => Backend::Pcg64(Pcg64::from_seed(long)),
     }
+}
+
+fn own_call(kind: u64, number: u64) -> Random {
+    let mut made = generators::beside_zeros(own_backend(kind, number));
+    if kind == 1 {
+        let mut long = [0u8; 32];
+        fill(&mut long, number);
+        made.twister = MersenneTwister::from_seed(long);
+    }
+    made
 }
 
 // Whether `make` of so many bytes answers as ordered: where they are as many as the row says, and otherwise refused.

@@ -42,9 +42,45 @@ fn is_left_out(call: usize, row: Row, number: u32) -> bool {
     number % BUDGETS != 0
 }
 
-// The budgets of a try: those of the try before it, but for a generator's first. There: the row's own, 0 where the call takes none, and
-// otherwise one short of what the row needs, just that, one more, and the largest. Where it needs no word, or is refused at any budget,
-// or no word is ever good: 0, 1, and two large ones.
+// What a row needs: the words that it uses where so many may be looked at, and its refusal.
+struct Need {
+    used: u32,
+    refusal: u32,
+}
+
+fn need_of(call: usize, row: Row, which: u32, patience: u32, wanted: &mut [u32]) -> Need {
+    let g = generators::generator(which);
+    let told = ordered(call, row, g, which % KINDS, patience, wanted);
+    Need {
+        used: told.used,
+        refusal: told.refusal,
+    }
+}
+
+// The budgets of a row on a generator: its own, or else one short of what it needs, just that, one more, and the largest. Where it needs
+// no word, or is refused at any budget, or no word is ever good: 0, 1, and two large ones.
+fn budgets_for(call: usize, row: Row, which: u32, wanted: &mut [u32]) -> [u32; 4] {
+    if row.budget != 0 {
+        return [row.budget; 4];
+    }
+    let patience = if row.length < 1000 {
+        PATIENCE
+    } else {
+        PATIENCE + 65536
+    };
+    let need = need_of(call, row, which, patience, wanted);
+    if need.refusal == 8 {
+        return [0, 1, PATIENCE, patience];
+    }
+    if need.used > 0 {
+        if need.used < 0xFFFF_FFFF {
+            return [need.used - 1, need.used, need.used + 1, 0xFFFF_FFFF];
+        }
+    }
+    [0, 1, patience, 0xFFFF_FFFF]
+}
+
+// The budgets of a try: those of the try before it, but for a generator's first.
 fn budgets_at(
     before: [u32; 4],
     call: usize,
@@ -55,26 +91,7 @@ fn budgets_at(
     if number % TRIES != 0 {
         return before;
     }
-    if row.budget != 0 {
-        return [row.budget; 4];
-    }
-    let which = number / TRIES;
-    let patience = if row.length < 1000 {
-        PATIENCE
-    } else {
-        PATIENCE + 65536
-    };
-    let g = generators::generator(which);
-    let need = ordered(call, row, g, which % KINDS, patience, wanted);
-    if need.refusal == 8 {
-        return [0, 1, PATIENCE, patience];
-    }
-    if need.used > 0 {
-        if need.used < 0xFFFF_FFFF {
-            return [need.used - 1, need.used, need.used + 1, 0xFFFF_FFFF];
-        }
-    }
-    [0, 1, patience, 0xFFFF_FFFF]
+    budgets_for(call, row, number / TRIES, wanted)
 }
 
 // The call on the first entries of the list, which are as many as the row says.
@@ -125,19 +142,21 @@ fn try_call(call: usize, row: Row, list: &mut [u32], wanted: &mut [u32]) -> Tall
     t
 }
 
+// `window_of` of the list's first entries.
+fn try_window(row: Row, list: &mut [u32]) -> Tally {
+    fill(list);
+    report::one(windows::is_as_ordered(row, list), row.line)
+}
+
 // A row of any call. One that can't be tried counts as one that is not as ordered.
 fn try_row(call: usize, row: Row, list: &mut [u32], wanted: &mut [u32]) -> Tally {
     if row.length > ROOM - 3 {
-        return report::counted(report::none(), false, row.line, 0, 0);
+        return report::one(false, row.line);
     }
     match call {
-        calls::NONE => report::counted(report::none(), false, row.line, 0, 0),
+        calls::NONE => report::one(false, row.line),
         calls::MAKE => seeds::try_row(row),
-        calls::WINDOW_OF => {
-            fill(list);
-            let right = windows::is_as_ordered(row, list);
-            report::counted(report::none(), right, row.line, 0, 0)
-        }
+        calls::WINDOW_OF => try_window(row, list),
         _ => try_call(call, row, list, wanted),
     }
 }
