@@ -13,9 +13,7 @@ mod trying;
 mod windows;
 
 fn main() {
-    let mut list = [0u32; trying::ROOM];
-    let mut wanted = [0u32; trying::ROOM];
     let mut text = io::large_buffer();
     let n = io::read_full(libc::STDIN_FILENO, &mut text);
-    trying::try_table(&text[..n], &mut list, &mut wanted);
+    trying::try_table(&text[..n]);
 }

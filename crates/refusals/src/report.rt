@@ -17,21 +17,26 @@ pub(crate) fn added(a: Tally, b: Tally) -> Tally {
     }
 }
 
-fn write_part(name: &[u8], n: u64) {
-    io::write_all(STDOUT_FILENO, name);
+fn write(text: &[u8], n: u64) {
+    io::write_all(STDOUT_FILENO, text);
     io::print_decimal(STDOUT_FILENO, n);
 }
 
-// One case more. Where it is not as ordered: the row's line in the table; its try, which is 8 times the generator's number, and on it
-// first by value, then over a lent table, four budgets; and the budget, or for `make` the bytes of the seed.
+// A case that is not as ordered: the row's line in the table; its try, which is 8 times the generator's number, and on it first by value,
+// then over a lent table, four budgets; and the budget, or for `make` the bytes of the seed.
+fn write_failed(line: u64, number: u32, budget: u64) {
+    write(b"NOT AS ORDERED    line, try, budget: ", line);
+    write(b" ", number as u64);
+    write(b" ", budget);
+    io::write_all(STDOUT_FILENO, b"\n");
+}
+
+// One case more.
 pub(crate) fn counted(t: Tally, right: bool, line: u64, number: u32, budget: u64) -> Tally {
     if right {
         return added(t, Tally { right: 1, of: 1 });
     }
-    write_part(b"NOT AS ORDERED    line ", line);
-    write_part(b", try ", number as u64);
-    write_part(b", budget ", budget);
-    io::write_all(STDOUT_FILENO, b"\n");
+    write_failed(line, number, budget);
     added(t, Tally { right: 0, of: 1 })
 }
 
@@ -52,7 +57,7 @@ pub(crate) fn write_heading(text: &[u8], from: usize) {
 
 // How many are as ordered.
 pub(crate) fn write_tally(t: Tally) {
-    write_part(b"", t.right);
-    write_part(b" of ", t.of);
+    io::print_decimal(STDOUT_FILENO, t.right);
+    write(b" of ", t.of);
     io::write_all(STDOUT_FILENO, b" as ordered\n");
 }

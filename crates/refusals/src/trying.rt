@@ -19,7 +19,7 @@ use crate::windows;
 use random::Random;
 
 // The entries that there is room for, of this program's own: three more than the longest list of a row, so that a store past its end shows.
-pub(crate) const ROOM: usize = 65540;
+const ROOM: usize = 65540;
 
 // Words that are looked through for a good one, more than two tables of the twister; for a long list as many more as it may have entries.
 const PATIENCE: u32 = 1300;
@@ -48,9 +48,10 @@ struct Need {
     refusal: u32,
 }
 
-fn need_of(call: usize, row: Row, which: u32, patience: u32, wanted: &mut [u32]) -> Need {
+fn need_of(call: usize, row: Row, which: u32, patience: u32) -> Need {
+    let mut list = [0u32; ROOM];
     let g = generators::generator(which);
-    let told = ordered(call, row, g, which % KINDS, patience, wanted);
+    let told = ordered(call, row, g, which % KINDS, patience, &mut list);
     Need {
         used: told.used,
         refusal: told.refusal,
@@ -59,7 +60,7 @@ fn need_of(call: usize, row: Row, which: u32, patience: u32, wanted: &mut [u32])
 
 // The budgets of a row on a generator: its own, or else one short of what it needs, just that, one more, and the largest. Where it needs
 // no word, or is refused at any budget, or no word is ever good: 0, 1, and two large ones.
-fn budgets_for(call: usize, row: Row, which: u32, wanted: &mut [u32]) -> [u32; 4] {
+fn budgets_for(call: usize, row: Row, which: u32) -> [u32; 4] {
     if row.budget != 0 {
         return [row.budget; 4];
     }
@@ -68,7 +69,7 @@ fn budgets_for(call: usize, row: Row, which: u32, wanted: &mut [u32]) -> [u32; 4
     } else {
         PATIENCE + 65536
     };
-    let need = need_of(call, row, which, patience, wanted);
+    let need = need_of(call, row, which, patience);
     if need.refusal == 8 {
         return [0, 1, PATIENCE, patience];
     }
@@ -81,17 +82,11 @@ fn budgets_for(call: usize, row: Row, which: u32, wanted: &mut [u32]) -> [u32; 4
 }
 
 // The budgets of a try: those of the try before it, but for a generator's first.
-fn budgets_at(
-    before: [u32; 4],
-    call: usize,
-    row: Row,
-    number: u32,
-    wanted: &mut [u32],
-) -> [u32; 4] {
+fn budgets_at(before: [u32; 4], call: usize, row: Row, number: u32) -> [u32; 4] {
     if number % TRIES != 0 {
         return before;
     }
-    budgets_for(call, row, number / TRIES, wanted)
+    budgets_for(call, row, number / TRIES)
 }
 
 // The call on the first entries of the list, which are as many as the row says.
@@ -106,58 +101,52 @@ fn asked(call: usize, row: Row, g: Random, list: &mut [u32], budget: u32, over_l
 }
 
 // One try: whether the whole answer and the whole list are as ordered, with the entries past the row's own.
-fn try_once(
-    t: Tally,
-    call: usize,
-    row: Row,
-    number: u32,
-    budget: u32,
-    list: &mut [u32],
-    wanted: &mut [u32],
-) -> Tally {
+fn try_once(t: Tally, call: usize, row: Row, number: u32, budget: u32) -> Tally {
     if is_left_out(call, row, number) {
         return t;
     }
     let which = number / TRIES;
     let g = generators::generator(which);
-    fill(wanted);
-    let right = ordered(call, row, g, which % KINDS, budget, wanted);
-    fill(list);
-    let told = asked(call, row, g, list, budget, number % TRIES >= BUDGETS);
-    let as_ordered = same_told(told, right) && parts::same_words(list, wanted);
+    let mut list = [0u32; ROOM];
+    fill(&mut list);
+    let mut wanted = list;
+    let right = ordered(call, row, g, which % KINDS, budget, &mut wanted);
+    let told = asked(call, row, g, &mut list, budget, number % TRIES >= BUDGETS);
+    let as_ordered = same_told(told, right) && parts::same_words(&list, &wanted);
     report::counted(t, as_ordered, row.line, number, budget as u64)
 }
 
 // A row of a call that draws from a generator or changes it.
-fn try_call(call: usize, row: Row, list: &mut [u32], wanted: &mut [u32]) -> Tally {
+fn try_call(call: usize, row: Row) -> Tally {
     let mut budgets = [0u32; 4];
     let mut t = report::none();
     let mut number: u32 = 0;
     while number < GENERATORS * TRIES {
-        budgets = budgets_at(budgets, call, row, number, wanted);
+        budgets = budgets_at(budgets, call, row, number);
         let budget = budgets[(number % BUDGETS) as usize];
-        t = try_once(t, call, row, number, budget, list, wanted);
+        t = try_once(t, call, row, number, budget);
         number += 1;
     }
     t
 }
 
 // `window_of` of the list's first entries.
-fn try_window(row: Row, list: &mut [u32]) -> Tally {
-    fill(list);
-    report::one(windows::is_as_ordered(row, list), row.line)
+fn try_window(row: Row) -> Tally {
+    let mut list = [0u32; ROOM];
+    fill(&mut list);
+    report::one(windows::is_as_ordered(row, &list), row.line)
 }
 
 // A row of any call. One that can't be tried counts as one that is not as ordered.
-fn try_row(call: usize, row: Row, list: &mut [u32], wanted: &mut [u32]) -> Tally {
+fn try_row(call: usize, row: Row) -> Tally {
     if row.length > ROOM - 3 {
         return report::one(false, row.line);
     }
     match call {
         calls::NONE => report::one(false, row.line),
         calls::MAKE => seeds::try_row(row),
-        calls::WINDOW_OF => try_window(row, list),
-        _ => try_call(call, row, list, wanted),
+        calls::WINDOW_OF => try_window(row),
+        _ => try_call(call, row),
     }
 }
 
@@ -180,7 +169,7 @@ fn closed(run: Run, text: &[u8]) -> Tally {
 }
 
 // A letter of the table, which matters where a line begins: a row begins with a space, a heading with a letter or a digit.
-fn take_letter(run: Run, text: &[u8], at: usize, list: &mut [u32], wanted: &mut [u32]) -> Run {
+fn take_letter(run: Run, text: &[u8], at: usize) -> Run {
     let mut next = run;
     let letter = table::letter(text, at);
     next.begins = letter == b'\n';
@@ -192,7 +181,7 @@ fn take_letter(run: Run, text: &[u8], at: usize, list: &mut [u32], wanted: &mut 
         b' ' => {
             let call = calls::number_at(text, std::num::wrapping_add_usize(run.heading, 18));
             let row = table::row_at(text, at, next.lines);
-            next.here = report::added(run.here, try_row(call, row, list, wanted));
+            next.here = report::added(run.here, try_row(call, row));
         }
         b'#' | b'\n' => {}
         _ => {
@@ -205,7 +194,7 @@ fn take_letter(run: Run, text: &[u8], at: usize, list: &mut [u32], wanted: &mut 
 }
 
 // Every row of the table, and a line of the report for each heading.
-pub(crate) fn try_table(text: &[u8], list: &mut [u32], wanted: &mut [u32]) {
+pub(crate) fn try_table(text: &[u8]) {
     let mut run = Run {
         all: report::none(),
         here: report::none(),
@@ -215,7 +204,7 @@ pub(crate) fn try_table(text: &[u8], list: &mut [u32], wanted: &mut [u32]) {
     };
     let mut at: usize = 0;
     while at < text.len() {
-        run = take_letter(run, text, at, list, wanted);
+        run = take_letter(run, text, at);
         at += 1;
     }
     report::write_tally(closed(run, text));

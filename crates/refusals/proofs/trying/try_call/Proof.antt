@@ -1,17 +1,14 @@
--- `try_call` is safe and ends: the tries rise to their number, and the lists keep their lengths.
-use lib.ListN.{length}
-use mathlib.Core.Path.{_≡_}
+-- `try_call` is safe and ends: the tries rise to their number.
 use Prim.Native.Nat.{_≤_, _-_}
 use borrow.Author.Needs.{needs}
 use Rattle.refusals.proofs.trying.try_call.Statement.{statement}
 use Rattle.refusals.proofs.trying.try_call.Tie as tie
 
 abbrev Inv-loop : tie.InvT-loop
-Inv-loop call row list₀ wanted₀ budgets₀ t₀ number₀ list wanted budgets t number =
-    (number ≤ 128) × (length list ≡ length list₀) × (length wanted ≡ length wanted₀)
+Inv-loop call row budgets₀ t₀ number₀ budgets t number = number ≤ 128
 
 abbrev μ-loop : tie.MeasureT-loop
-μ-loop call row list₀ wanted₀ budgets₀ t₀ number₀ list wanted budgets t number = 128 - number
+μ-loop call row budgets₀ t₀ number₀ budgets t number = 128 - number
 
 none-requires : tie.Need-none-requires Inv-loop μ-loop
 none-requires c κs = search needs
@@ -46,12 +43,6 @@ loop-less c = search needs
 loop-again : tie.Need-loop-again Inv-loop μ-loop
 loop-again c = search needs
 
-same-length : tie.Need-same-length Inv-loop μ-loop
-same-length c = search needs
-
-same-length-2 : tie.Need-same-length-2 Inv-loop μ-loop
-same-length-2 c = search needs
-
 returns : tie.Need-returns Inv-loop μ-loop
 returns c = search needs
 
@@ -72,6 +63,4 @@ try-call-spec =
     add-number
     loop-less
     loop-again
-    same-length
-    same-length-2
     returns)

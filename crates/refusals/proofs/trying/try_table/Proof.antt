@@ -1,17 +1,15 @@
--- `try_table` is safe and ends: the place rises to the end of the text, and the lists keep their lengths.
+-- `try_table` is safe and ends: the place rises to the end of the text.
 use lib.ListN.{length}
-use mathlib.Core.Path.{_≡_}
 use Prim.Native.Nat.{_≤_, _-_}
 use borrow.Author.Needs.{needs}
 use Rattle.refusals.proofs.trying.try_table.Statement.{statement}
 use Rattle.refusals.proofs.trying.try_table.Tie as tie
 
 abbrev Inv-loop : tie.InvT-loop
-Inv-loop text list₀ wanted₀ run₀ at₀ list wanted run at =
-    (at ≤ length text) × (length list ≡ length list₀) × (length wanted ≡ length wanted₀)
+Inv-loop text run₀ at₀ run at = at ≤ length text
 
 abbrev μ-loop : tie.MeasureT-loop
-μ-loop text list₀ wanted₀ run₀ at₀ list wanted run at = length text - at
+μ-loop text run₀ at₀ run at = length text - at
 
 none-requires : tie.Need-none-requires Inv-loop μ-loop
 none-requires c κs = search needs
@@ -40,12 +38,6 @@ closed-requires c κs = search needs
 write-tally-requires : tie.Need-write-tally-requires Inv-loop μ-loop
 write-tally-requires c κs = search needs
 
-same-length : tie.Need-same-length Inv-loop μ-loop
-same-length c = search needs
-
-same-length-2 : tie.Need-same-length-2 Inv-loop μ-loop
-same-length-2 c = search needs
-
 returns : tie.Need-returns Inv-loop μ-loop
 returns c = search needs
 
@@ -64,6 +56,4 @@ try-table-spec =
     loop-again
     closed-requires
     write-tally-requires
-    same-length
-    same-length-2
     returns)
