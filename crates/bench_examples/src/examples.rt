@@ -9,7 +9,8 @@ const OUT_OF_BUDGET: Told = Told {
 
 pub(crate) const BELOW_COUNT: usize = 13;
 
-// Draws below a bound: the bound, two words, of which the budget says how many are given, the budget; the refusal, the value, the words used.
+// Draws below a bound: the bound, two words, of which the budget says how many are given, the budget; the refusal, the value, the words
+// used.
 pub(crate) const BELOW: [[u32; 7]; BELOW_COUNT] = [
     // below 3: word 0 is rejected; 1 gives 0; 0x55555555 gives 0; 0x55555556 gives 1; 0xFFFFFFFF gives 2
     [3, 0, 0, 1, 8, 0, 0],

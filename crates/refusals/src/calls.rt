@@ -1,65 +1,44 @@
-// The calls that are tried, and what one with a budget is called with and must tell.
-use libc::STDOUT_FILENO;
+// The calls that are tried, by numbers: the places of their names in `number_at`.
+pub(crate) const BOUNDED: usize = 0;
 
-pub(crate) enum Call {
-    Bounded,
-    RandomRange,
-    Int,
-    Range,
-    Uint,
-    Char,
-    Choose,
-    Shuffle,
-    RandSlice,
-    Bool,
-    Uniform,
-    Split,
-    Make,
-    Seed,
-    SetMti,
-    FillBytes,
-    WindowOf,
-}
+pub(crate) const RANDOM_RANGE: usize = 1;
 
-// A call's arguments and what document 01 orders. Ends of `int` and `range` are words read as signed; `bounded` draws below `max`.
-// `bound` is what the (first) draw is below, 0 where no word is drawn; `min` is added to what is drawn.
-// `ends` says that the report's line ends with this case.
-pub(crate) struct Case {
-    pub(crate) row: u32,
-    pub(crate) call: Call,
-    pub(crate) length: usize,
-    pub(crate) window: usize,
-    pub(crate) min: u32,
-    pub(crate) max: u32,
-    pub(crate) refusal: u32,
-    pub(crate) bound: u64,
-    pub(crate) ends: bool,
-}
+pub(crate) const INT: usize = 2;
 
-// The call's place among the calls above, as in the names below.
-fn number_of(call: Call) -> usize {
-    match call {
-        Call::Bounded => 0,
-        Call::RandomRange => 1,
-        Call::Int => 2,
-        Call::Range => 3,
-        Call::Uint => 4,
-        Call::Char => 5,
-        Call::Choose => 6,
-        Call::Shuffle => 7,
-        Call::RandSlice => 8,
-        Call::Bool => 9,
-        Call::Uniform => 10,
-        Call::Split => 11,
-        Call::Make => 12,
-        Call::Seed => 13,
-        Call::SetMti => 14,
-        Call::FillBytes => 15,
-        Call::WindowOf => 16,
-    }
-}
+pub(crate) const RANGE: usize = 3;
 
-pub(crate) fn write_call(call: Call) {
+pub(crate) const UINT: usize = 4;
+
+pub(crate) const CHAR: usize = 5;
+
+pub(crate) const CHOOSE: usize = 6;
+
+pub(crate) const SHUFFLE: usize = 7;
+
+pub(crate) const RAND_SLICE: usize = 8;
+
+pub(crate) const BOOL: usize = 9;
+
+pub(crate) const UNIFORM: usize = 10;
+
+pub(crate) const SPLIT: usize = 11;
+
+pub(crate) const SEED: usize = 12;
+
+pub(crate) const SET_MTI: usize = 13;
+
+pub(crate) const FILL_BYTES: usize = 14;
+
+pub(crate) const MAKE: usize = 15;
+
+pub(crate) const WINDOW_OF: usize = 16;
+
+// A name that is none of them.
+pub(crate) const NONE: usize = 17;
+
+// The number of the call whose name stands at a place of the table. Names have 16 letters each, and the
+// first eight tell them apart.
+pub(crate) fn number_at(text: &[u8], at: usize) -> usize {
     let names = b"bounded         \
         random_range    \
         int             \
@@ -72,19 +51,26 @@ pub(crate) fn write_call(call: Call) {
         bool            \
         uniform         \
         split           \
-        make            \
         seed            \
         set_mti         \
         fill_bytes      \
+        make            \
         window_of       ";
-    write_name(names, number_of(call));
+    let name = wrapping::le_u64(text, at);
+    let mut call: usize = 0;
+    while call < NONE {
+        if wrapping::le_u64(names, 16 * call) == name {
+            return call;
+        }
+        call += 1;
+    }
+    NONE
 }
 
-// The name at a place of a list of names, 16 bytes each.
-pub(crate) fn write_name(names: &[u8], at: usize) {
-    if at < names.len() / 16 {
-        let from = at * 16;
-        let end = from + 16;
-        io::write_all(STDOUT_FILENO, &names[from..end]);
+// Whether a call takes a budget.
+pub(crate) fn has_budget(call: usize) -> bool {
+    match call {
+        BOOL | UNIFORM | SPLIT | SEED | SET_MTI | FILL_BYTES => false,
+        _ => true,
     }
 }

@@ -1,6 +1,5 @@
 // The generators that every call is tried on: each kind in four states set by hand. What a kind does not use holds sentinels.
 use mersenne_twister::MersenneTwister;
-use parts::Small;
 use pcg::Pcg32;
 use pcg::Pcg64;
 use random::Backend;
@@ -9,10 +8,12 @@ use wrapping::Wide;
 use xoshiro::Xoshiro256PlusPlus;
 
 // Four kinds in four states: the kind changes first.
+pub(crate) const KINDS: u32 = 4;
+
 pub(crate) const GENERATORS: u32 = 16;
 
-// The first of those in the state of zeros.
-pub(crate) const ZEROS: u32 = 8;
+// The state of zeros, whose words are 0 for ever.
+pub(crate) const ZEROS: u32 = 2;
 
 const LARGEST: u64 = 0xFFFF_FFFF_FFFF_FFFF;
 
@@ -20,29 +21,51 @@ const LARGEST: u64 = 0xFFFF_FFFF_FFFF_FFFF;
 const SENTINEL: u32 = 0xDEAD_BEEF;
 
 // Four small words, and the position beside the kinds that have no use for it.
-struct State(u64, u64, u64, u64, u32);
-
-// No state in particular; one whose first word is 0 and rejected by most bounds, with others after it; zeros, whose words are 0 for ever;
-// and the largest numbers.
-const STATES: [State; 4] = [
-    State(0x9E37_79B9_7F4A_7C15, 0xBF58_476D_1CE4_E5B9, 3, 5, 77),
-    State(0, 1, 0, 1, 624),
-    State(0, 0, 0, 0, 0),
-    State(LARGEST, LARGEST, LARGEST, LARGEST, 0xFFFF_FFFF),
-];
-
-// The kind and the state of a generator, by their numbers.
-pub(crate) fn kind_of(which: u32) -> u32 {
-    which % 4
+struct State {
+    w0: u64,
+    w1: u64,
+    w2: u64,
+    w3: u64,
+    mti: u32,
 }
 
-pub(crate) fn state_of(which: u32) -> u32 {
-    which / 4 % 4
+// No state in particular; one whose first word is 0 and rejected by most bounds, with others after it; zeros; and the largest numbers.
+fn state_at(number: u32) -> State {
+    match number {
+        0 => State {
+            w0: 0x9E37_79B9_7F4A_7C15,
+            w1: 0xBF58_476D_1CE4_E5B9,
+            w2: 3,
+            w3: 5,
+            mti: 77,
+        },
+        1 => State {
+            w0: 0,
+            w1: 1,
+            w2: 0,
+            w3: 1,
+            mti: 624,
+        },
+        ZEROS => State {
+            w0: 0,
+            w1: 0,
+            w2: 0,
+            w3: 0,
+            mti: 0,
+        },
+        _ => State {
+            w0: LARGEST,
+            w1: LARGEST,
+            w2: LARGEST,
+            w3: LARGEST,
+            mti: 0xFFFF_FFFF,
+        },
+    }
 }
 
 // The twister in a state, in the same order.
 fn twister_in(state: u32) -> MersenneTwister {
-    if state == 2 {
+    if state == ZEROS {
         return MersenneTwister::from_parts([0u32; 624], 700);
     }
     if state == 3 {
@@ -61,42 +84,36 @@ fn twister_in(state: u32) -> MersenneTwister {
 // A kind that has no use for the twister.
 fn small_backend(kind: u32, s: State) -> Backend {
     if kind == 0 {
-        return Backend::Xoshiro256PlusPlus(Xoshiro256PlusPlus::from_parts(s.0, s.1, s.2, s.3));
+        return Backend::Xoshiro256PlusPlus(Xoshiro256PlusPlus::from_parts(s.w0, s.w1, s.w2, s.w3));
     }
     if kind == 2 {
-        return Backend::Pcg32(Pcg32::from_parts(s.0, s.1));
+        return Backend::Pcg32(Pcg32::from_parts(s.w0, s.w1));
     }
     let state = Wide {
-        high: s.0,
-        low: s.1,
+        high: s.w0,
+        low: s.w1,
     };
     let inc = Wide {
-        high: s.2,
-        low: s.3,
+        high: s.w2,
+        low: s.w3,
     };
     Backend::Pcg64(Pcg64::from_parts(state, inc))
 }
 
 pub(crate) fn generator(which: u32) -> Random {
-    let kind = kind_of(which);
-    let state = state_of(which);
+    let kind = which % KINDS;
+    let number = which / KINDS % 4;
     if kind == 1 {
-        let twister = twister_in(state);
+        let twister = twister_in(number);
         return Random {
             backend: Backend::MersenneTwister,
             twister,
         };
     }
-    let s = STATES[(state % 4) as usize];
+    let s = state_at(number);
     let backend = small_backend(kind, s);
-    let twister = MersenneTwister::from_parts([SENTINEL; 624], s.4);
+    let twister = MersenneTwister::from_parts([SENTINEL; 624], s.mti);
     Random { backend, twister }
-}
-
-// A backend of four zero words beside a table of zeros: what a refused making or split hands out.
-pub(crate) fn zeros() -> Random {
-    let backend = Backend::Xoshiro256PlusPlus(Xoshiro256PlusPlus::from_parts(0, 0, 0, 0));
-    beside_zeros(backend)
 }
 
 pub(crate) fn beside_zeros(backend: Backend) -> Random {
@@ -104,55 +121,27 @@ pub(crate) fn beside_zeros(backend: Backend) -> Random {
     Random { backend, twister }
 }
 
-fn same_small(a: Small, b: Small) -> bool {
-    if a.w0 != b.w0 {
+// A backend of four zero words beside a table of zeros: what a refused making or split hands out.
+pub(crate) fn zeros() -> Random {
+    beside_zeros(Backend::Xoshiro256PlusPlus(Xoshiro256PlusPlus::from_parts(0, 0, 0, 0)))
+}
+
+fn same_backend(a: Backend, b: Backend) -> bool {
+    let x = parts::small_words(a);
+    let y = parts::small_words(b);
+    let small = (x.w0 ^ y.w0) | (x.w1 ^ y.w1) | (x.w2 ^ y.w2) | (x.w3 ^ y.w3);
+    if small != 0 {
         return false;
     }
-    if a.w1 != b.w1 {
-        return false;
-    }
-    if a.w2 != b.w2 {
-        return false;
-    }
-    a.w3 == b.w3
+    parts::kind(a) == parts::kind(b)
 }
 
 // Whether two generators are the same struct: kind, small words, position and the whole table, used or not.
 pub(crate) fn same_generator(a: Random, b: Random) -> bool {
-    let first = a.backend;
-    let second = b.backend;
-    if parts::kind(first) != parts::kind(second) {
-        return false;
-    }
-    if !same_small(parts::small_words(first), parts::small_words(second)) {
-        return false;
-    }
     if a.twister.mti != b.twister.mti {
         return false;
     }
-    parts::same_words(&a.twister.mt, &b.twister.mt)
-}
-
-// The generator n `rand`s on.
-pub(crate) fn moved(g: Random, n: u32) -> Random {
-    let mut next = g;
-    let mut i: u32 = 0;
-    while i < n {
-        let w = random::rand(next);
-        next = w.next;
-        i += 1;
-    }
-    next
-}
-
-// How many words a double is made of: one of kinds 0 and 3, two of kinds 1 and 2.
-pub(crate) fn words_of_a_double(which: u32) -> u32 {
-    let kind = kind_of(which);
-    if kind == 1 {
-        return 2;
-    }
-    if kind == 2 {
-        return 2;
-    }
-    1
+    let first = a.backend;
+    let second = b.backend;
+    same_backend(first, second) && parts::same_words(&a.twister.mt, &b.twister.mt)
 }

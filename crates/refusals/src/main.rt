@@ -1,26 +1,19 @@
-// Runs the library's refusals, on both sides of each edge, and compares whole answers with what document 01 orders.
+// Runs the library's refusals, on both sides of each edge, and compares whole answers with what document 01 orders. What is tried
+// stands in the table on standard input (the file `stdin` of this crate), a line for each row.
 mod by_value;
 mod calls;
-mod cases;
-mod chances;
-mod endless;
-mod ends;
 mod generators;
-mod intervals;
 mod lent;
-mod lines;
 mod order;
-mod others;
 mod report;
 mod seeds;
-mod splitting;
+mod table;
 mod told;
 mod trying;
+mod windows;
 
 fn main() {
-    let mut list = [0u32; 65540];
-    let mut wanted = [0u32; 65540];
-    let budgeted = trying::try_all(&mut list, &mut wanted);
-    let all = report::added(budgeted, lines::try_all());
-    report::tell(all);
+    let mut text = io::large_buffer();
+    let n = io::read_full(libc::STDIN_FILENO, &mut text);
+    trying::try_table(&text[..n]);
 }

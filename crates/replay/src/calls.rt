@@ -1,4 +1,5 @@
-// The numbers of the calls in a row, as rust/record/src/call.rs has them: document 01's list; then what is only made, and the two long runs.
+// The numbers of the calls in a row, as rust/record/src/call.rs has them: document 01's list; then what is only made, and the two long
+// runs.
 pub(crate) const RAND: u32 = 0;
 
 pub(crate) const U64: u32 = 1;

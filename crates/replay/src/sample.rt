@@ -1,6 +1,7 @@
-// The format of a file, as rust/record/src/row.rs writes it: 32-bit little-endian words; first the number of words to a row and the number of
-// rows, then the rows: call, kind, maker, words skipped, the maker's 8 words, 4 arguments (the last one the budget where there is one), and the
-// answer: refusal, value (low, high), words used, the next two words, and the digest of the generator after the call (low, high).
+// The format of a file, as rust/record/src/row.rs writes it: 32-bit little-endian words; first the number of words to a row and the
+// number of rows, then the rows: call, kind, maker, words skipped, the maker's 8 words, 4 arguments (the last one the budget where
+// there is one), and the answer: refusal, value (low, high), words used, the next two words, and the digest of the generator after the
+// call (low, high).
 
 pub(crate) const WORDS: u32 = 24;
 

@@ -1,4 +1,5 @@
-// What programs write to standard output: texts, numbers and words. That something is written can't be promised; every call is safe and ends.
+// What programs write to standard output: texts, numbers and words. That something is written can't be promised; every call is safe and
+// ends.
 use libc::STDOUT_FILENO;
 
 pub fn text(t: &[u8]) {

@@ -57,7 +57,8 @@ raised-zero o = go (eqb (o .refusal) 0) refl
 -- a draw that is refused has used no word, so that it leaves the very lists that came
 pub refused-draw-keeps : (s t : List ℕ) (by : Words → Outcome) → (by (wordsOf (generatorIn s t)) .refusal ≡ refusal.answered → ⊥)
     → by (wordsOf (generatorIn s t)) .used ≡ 0
-    → (atBoundary s t (number 0 0 refusal.kind) (drawnBy by) .state ≡ s) × (atBoundary s t (number 0 0 refusal.kind) (drawnBy by) .table ≡ t)
+    → (atBoundary s t (number 0 0 refusal.kind) (drawnBy by) .state ≡ s)
+    × (atBoundary s t (number 0 0 refusal.kind) (drawnBy by) .table ≡ t)
 unfolding library.answerFrom
 refused-draw-keeps s t by h unused =
     let g = generatorIn s t in
@@ -102,7 +103,8 @@ module _ (s t : List ℕ) (budget p : ℕ) {s′ u : List ℕ} where
 
   pub start-drawn : (n window : ℕ) → n ≤ listLimit → 0 < window → window ≤ n → Draws s t (n - window + 1) budget 0 p s′ u
       → told (unpacked p) s′ u
-      ≡ atBoundary s t (number 0 0 refusal.kind) (λ g. startOf (slicing.startFrom g (slicing.startOf (slicing.sliceBy (wordsOf g) n window budget))))
+      ≡ atBoundary s t (number 0 0 refusal.kind)
+      (λ g. startOf (slicing.startFrom g (slicing.startOf (slicing.sliceBy (wordsOf g) n window budget))))
   unfolding slicing.startFrom slicing.startOf slicing.sliceBy library.answerFrom
   start-drawn n window h some room d =
       let w = wordsOf (generatorIn s t) in

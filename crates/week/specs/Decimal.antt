@@ -1,5 +1,5 @@
--- A number out of its decimal digits: the digits from the left, each worth ten times the next; nothing but digits, at least one, and a number of 64
--- bits.
+-- A number out of its decimal digits: the digits from the left, each worth ten times the next; nothing but digits, at least one, and a
+-- number of 64 bits.
 use mathlib.Core.Bool.{Bool, true, false, cond}
 use mathlib.Core.List.{List, [], _∷_}
 use Prim.Native.Nat.{ℕ, _+_, _-_, _*_, _^_}

@@ -48,7 +48,9 @@ module _ {text : List ℕ} {number i : ℕ} (h : Reading text number i) where
       -- or a digit that makes the number too large,
       pub reading-over : 2 ^ 64 ≤ withDigit number (getD text i 0) → noNumber ≡ readNumber text
       unfolding readOn
-      reading-over over = rw (le-leb 48 (getD text i 0) low, le-leb (getD text i 0) 57 high, le-ltb (withDigit number (getD text i 0)) (2 ^ 64) over) at next
+      reading-over over =
+          let large = le-ltb (withDigit number (getD text i 0)) (2 ^ 64) over in
+          rw (le-leb 48 (getD text i 0) low, le-leb (getD text i 0) 57 high, large) at next
 
       -- or one more digit.
       pub reading-on : withDigit number (getD text i 0) < 2 ^ 64 → Reading text (withDigit number (getD text i 0)) (i + 1)
@@ -57,5 +59,6 @@ module _ {text : List ℕ} {number i : ℕ} (h : Reading text number i) where
         within = omega arith;
         left =
             let a : i + 1 ≡ suc i = add-one i in
-            rw a (rw (le-leb 48 (getD text i 0) low, le-leb (getD text i 0) 57 high, lt-ltb (withDigit number (getD text i 0)) (2 ^ 64) fits) at next);
+            let small = lt-ltb (withDigit number (getD text i 0)) (2 ^ 64) fits in
+            rw a (rw (le-leb 48 (getD text i 0) low, le-leb (getD text i 0) 57 high, small) at next);
       }

@@ -1,10 +1,10 @@
 // Prints the plan of a week: which inlet opens in which slot and where the blanks go, day after day from one generator. It takes six
-// arguments, KIND SEED INLETS BLANKS DAYS BUDGET; without any it prints an example.
+// arguments, KIND SEED INLETS BLANKS DAYS BUDGET; without any it prints an example, and with -h or --help the usage.
 ghost use mathlib.Core.Path.{_≡_};
 ghost use lib.ListN.{length};
-ghost use Rattle.lists.specs.Limit.{listLimit};
-ghost use Rattle.week.specs.Slots.{WithinLimit};
+ghost use Rattle.week.specs.Slots.{WithinLimit, mostSlots};
 
+mod arguments;
 mod decimal;
 mod job;
 mod planning;
@@ -13,10 +13,10 @@ mod report;
 use job::Job;
 
 // Room for the longest day. The promise gives its length, which a part of it needs.
-fn longest_day() -> [u32; lists::limit::LIST_LIMIT]
-    ensures { λ r. ⌜ listLimit ≡ length r ⌝ }
+fn longest_day() -> [u32; job::MOST_SLOTS]
+    ensures { λ r. ⌜ mostSlots ≡ length r ⌝ }
 {
-    [0; lists::limit::LIST_LIMIT]
+    [0; job::MOST_SLOTS]
 }
 
 fn run(job: Job)
@@ -29,15 +29,19 @@ fn run(job: Job)
 }
 
 fn main() {
+    if arguments::is_help() {
+        report::write_usage(libc::STDOUT_FILENO);
+        return;
+    }
     if os::arg_count() < 2 {
         let shown = job::example();
         report::tell_example(shown);
         run(shown);
         return;
     }
-    let asked = job::from_arguments();
+    let asked = arguments::from_arguments();
     if asked.bad {
-        report::tell_usage();
+        report::write_usage(libc::STDERR_FILENO);
         return;
     }
     if asked.job.seed == 0 {

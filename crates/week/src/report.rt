@@ -1,6 +1,7 @@
 // What the program writes: the plan on standard output; warnings and what is wrong with its arguments on standard error.
 ghost use Prim.Native.Nat.{_≤_};
 use crate::job::Job;
+use crate::job::MOST_SLOTS;
 use libc::STDERR_FILENO;
 use libc::STDOUT_FILENO;
 
@@ -63,6 +64,18 @@ fn digits_of(n: u32) -> usize
     }
     if n < 100000 {
         return 5;
+    }
+    if n < 1000000 {
+        return 6;
+    }
+    if n < 10000000 {
+        return 7;
+    }
+    if n < 100000000 {
+        return 8;
+    }
+    if n < 1000000000 {
+        return 9;
     }
     10
 }
@@ -141,6 +154,9 @@ pub(crate) fn tell_total(used: u64, days: u32) {
 
 // ---- on standard error
 
+// The letters of a bad argument that are shown.
+const SHOWN: usize = 20;
+
 fn err(text: &[u8]) {
     io::write_all(STDERR_FILENO, text);
 }
@@ -150,32 +166,76 @@ fn err_number(before: &[u8], n: u64) {
     io::print_decimal(STDERR_FILENO, n);
 }
 
-pub(crate) fn tell_usage() {
-    err(b"usage: ./week KIND SEED INLETS BLANKS DAYS BUDGET\n");
-    err(b"  KIND    0 Xoshiro256PlusPlus, 1 MersenneTwister, 2 Pcg32, 3 Pcg64\n");
-    err(b"  SEED    a number of 64 bits; kind 1 takes 32 bits, kind 3 widens it to 128\n");
-    err(b"  INLETS  at least 1; each opens once a day\n");
-    err_number(
-        b"  BLANKS  of each day; with the inlets at most ",
-        lists::limit::LIST_LIMIT as u64,
-    );
-    err(b"\n");
-    err(b"  DAYS    at least 1\n");
-    err(b"  BUDGET  the words that the draw of a day may use, a number of 32 bits\n");
-}
-
 pub(crate) fn tell_count() {
     err(b"week: wrong number of arguments: six are wanted, or none for an example\n");
+}
+
+// The letter at a place, if it is there and can be seen; `?` for any other.
+fn seen(text: &[u8], at: usize) -> u8 {
+    if at < text.len() {
+        let letter = text[at];
+        if b' ' <= letter {
+            if letter <= b'~' {
+                return letter;
+            }
+        }
+    }
+    b'?'
+}
+
+// The first letters of a text. What a terminal would obey, or could show in two letters, is `?`.
+fn first_seen(text: &[u8]) -> [u8; SHOWN] {
+    let mut shown = [b'?'; SHOWN];
+    let mut i: usize = 0;
+    while i < SHOWN {
+        shown[i] = seen(text, i);
+        i += 1;
+    }
+    shown
+}
+
+// An argument: its first letters, and where there are more, or too many to be read at all, two dots.
+fn show(text: &[u8]) {
+    let shown = first_seen(text);
+    let n = text.len();
+    if n <= SHOWN {
+        err(&shown[0..n]);
+        return;
+    }
+    err(&shown);
+    err(b"..");
 }
 
 pub(crate) fn tell_bad(name: &[u8], text: &[u8], least: u64, most: u64) {
     err(b"week: bad ");
     err(name);
     err(b" '");
-    err(text);
+    show(text);
     err_number(b"': wanted: a whole number from ", least);
     err_number(b" to ", most);
     err(b"\n");
+}
+
+// How the program is called.
+pub(crate) fn write_usage(to: i32) {
+    io::write_all(to, b"usage: ./week KIND SEED INLETS BLANKS DAYS BUDGET\n");
+    io::write_all(
+        to,
+        b"  KIND    0 Xoshiro256PlusPlus, 1 MersenneTwister, 2 Pcg32, 3 Pcg64\n",
+    );
+    io::write_all(
+        to,
+        b"  SEED    a number of 64 bits; kind 1 takes 32 bits, kind 3 widens it to 128\n",
+    );
+    io::write_all(to, b"  INLETS  at least 1; each opens once a day\n");
+    io::write_all(to, b"  BLANKS  of each day; with the inlets at most ");
+    io::print_decimal(to, MOST_SLOTS as u64);
+    io::write_all(to, b"\n");
+    io::write_all(to, b"  DAYS    at least 1\n");
+    io::write_all(
+        to,
+        b"  BUDGET  the words that the draw of a day may use, a number of 32 bits\n",
+    );
 }
 
 pub(crate) fn warn_of_seed_zero() {

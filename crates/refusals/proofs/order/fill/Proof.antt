@@ -1,9 +1,9 @@
 -- `fill` is safe and ends: the list keeps its length, and the place stays within it.
-use borrow.Author.Needs.{needs}
 use lib.ListN.{length, length-set}
-use native.Mathlib.Omega.{arith}
 use mathlib.Core.Path.{_≡_}
 use Prim.Native.Nat.{_≤_, _-_}
+use native.Mathlib.Omega.{arith}
+use borrow.Author.Needs.{needs}
 use Rattle.refusals.proofs.order.fill.Statement.{statement}
 use Rattle.refusals.proofs.order.fill.Tie as tie
 

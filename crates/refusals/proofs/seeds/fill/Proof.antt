@@ -1,17 +1,17 @@
--- `fill` is safe and ends: the list keeps its length, and the place stays within it.
-use borrow.Author.Needs.{needs}
+-- `fill` is safe and ends: the seed keeps its length, and the place stays within it.
 use lib.ListN.{length, length-set}
-use native.Mathlib.Omega.{arith}
 use mathlib.Core.Path.{_≡_}
 use Prim.Native.Nat.{_≤_, _-_}
+use native.Mathlib.Omega.{arith}
+use borrow.Author.Needs.{needs}
 use Rattle.refusals.proofs.seeds.fill.Statement.{statement}
 use Rattle.refusals.proofs.seeds.fill.Tie as tie
 
 abbrev Inv-loop : tie.InvT-loop
-Inv-loop seed₀ first step b₀ i₀ seed b i = (i ≤ length seed) × (length seed ≡ length seed₀)
+Inv-loop seed₀ number b₀ step i₀ seed b i = (i ≤ length seed) × (length seed ≡ length seed₀)
 
 abbrev μ-loop : tie.MeasureT-loop
-μ-loop seed₀ first step b₀ i₀ seed b i = length seed - i
+μ-loop seed₀ number b₀ step i₀ seed b i = length seed - i
 
 loop-holds : tie.Need-loop-holds Inv-loop μ-loop
 loop-holds c = search needs

@@ -4,7 +4,8 @@ use Prim.Native.Nat.{_-_}
 use native.Mathlib.Omega.{arith}
 use borrow.Author.Needs.{needs}
 use lib.ListN.{length}
-use Rattle.week.specs.DecimalLaws.{Reading, reading-nothing, reading-start, reading-done, reading-low, reading-high, reading-over, reading-on}
+use Rattle.week.specs.DecimalLaws.{Reading, reading-nothing, reading-start, reading-done}
+use Rattle.week.specs.DecimalLaws.{reading-low, reading-high, reading-over, reading-on}
 use Rattle.week.proofs.decimal.read_number.Statement.{statement}
 use Rattle.week.proofs.decimal.read_number.Tie as tie
 
