@@ -22,15 +22,9 @@ pub fn cases(seed: u64, calls: u64) -> Vec<Case> {
         count: calls,
         unit: "call",
         original: Box::new(move || {
-            timed(
-                kinds::original(kind, seed),
-                |g| original(g, calls),
-                |xor, g| [vec![xor], kinds::original_parts(g)].concat(),
-            )
+            timed(kinds::original(kind, seed), |g| original(g, calls), |xor, g| [vec![xor], kinds::original_parts(g)].concat())
         }),
-        port: Box::new(move || {
-            timed(kinds::port(kind, seed), |g| port(g, calls), |xor, g| [vec![xor], kinds::port_parts(g)].concat())
-        }),
+        port: Box::new(move || timed(kinds::port(kind, seed), |g| port(g, calls), |xor, g| [vec![xor], kinds::port_parts(g)].concat())),
     };
     rows.into_iter().flat_map(|row| (0..4).map(move |kind| case(row, kind))).collect()
 }

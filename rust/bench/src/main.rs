@@ -38,22 +38,16 @@ fn report() -> Result<(), String> {
     let few = words / 10;
     let families = [words::cases(seed, words), draws::cases(seed, few), calls::cases(seed, few), bulk::cases(seed)];
     let lines = families.iter().flatten().map(timing::measure).collect::<Result<Vec<Line>, String>>()?;
-    let title =
-        format!("{}; {}; seed {seed}; least of {} runs", machine::cpu_model(), env!("BENCH_RUSTC"), timing::RUNS);
+    let title = format!("{}; {}; seed {seed}; least of {} runs", machine::cpu_model(), env!("BENCH_RUSTC"), timing::RUNS);
     println!("{title}");
-    println!(
-        "{:<40} {:<20} {:>10} {:<5} {:>11} {:>8} {:>6}",
-        "what", "kind", "count", "unit", "original ns", "port ns", "ratio"
-    );
+    println!("{:<40} {:<20} {:>10} {:<5} {:>11} {:>8} {:>6}", "what", "kind", "count", "unit", "original ns", "port ns", "ratio");
     for line in &lines {
         let Line { what, kind, unit, count, original, port } = line;
         println!("{what:<40} {kind:<20} {count:>10} {unit:<5} {original:>11.3} {port:>8.3} {:>6.2}", line.ratio());
     }
     println!("{}", endless::line()?);
     match std::env::args().nth(3) {
-        Some(file) => {
-            std::fs::write(&file, picture::svg(&lines, &title)).map_err(|e| format!("{file} cannot be written: {e}"))
-        }
+        Some(file) => std::fs::write(&file, picture::svg(&lines, &title)).map_err(|e| format!("{file} cannot be written: {e}")),
         None => Ok(()),
     }
 }
@@ -61,7 +55,5 @@ fn report() -> Result<(), String> {
 /// The whole number given as the program's k-th argument, if there is one.
 fn number(k: usize) -> Result<Option<u64>, String> {
     let Some(text) = std::env::args().nth(k) else { return Ok(None) };
-    text.parse()
-        .map(Some)
-        .map_err(|e| format!("'{text}' is not a whole number ({e}); usage: bench [SEED [WORDS [PICTURE]]]"))
+    text.parse().map(Some).map_err(|e| format!("'{text}' is not a whole number ({e}); usage: bench [SEED [WORDS [PICTURE]]]"))
 }

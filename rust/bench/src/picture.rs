@@ -14,13 +14,7 @@ pub fn svg(lines: &[Line], title: &str) -> String {
     let mut y = 40;
     for group in lines.chunk_by(|a, b| a.what == b.what) {
         let longest = group.iter().map(|line| line.original.max(line.port)).fold(0.0, f64::max);
-        let _ = writeln!(
-            body,
-            r#"<text x="10" y="{}" font-weight="bold">{} (ns per {})</text>"#,
-            y + 10,
-            group[0].what,
-            group[0].unit
-        );
+        let _ = writeln!(body, r#"<text x="10" y="{}" font-weight="bold">{} (ns per {})</text>"#, y + 10, group[0].what, group[0].unit);
         y += 16;
         for line in group {
             let _ = writeln!(body, r#"<text x="{}" y="{}" text-anchor="end">{}</text>"#, LEFT - 6.0, y + 14, line.kind);

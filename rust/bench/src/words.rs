@@ -20,20 +20,8 @@ pub fn cases(seed: u64, words: u64) -> Vec<Case> {
         port,
     };
     vec![
-        case(
-            WHAT,
-            "Xoshiro256PlusPlus",
-            words,
-            Box::new(move || xoshiro(seed, words)),
-            Box::new(move || port_xoshiro(seed, words)),
-        ),
-        case(
-            WHAT,
-            "MersenneTwister",
-            words,
-            Box::new(move || twister(seed, words)),
-            Box::new(move || port_twister(seed, words)),
-        ),
+        case(WHAT, "Xoshiro256PlusPlus", words, Box::new(move || xoshiro(seed, words)), Box::new(move || port_xoshiro(seed, words))),
+        case(WHAT, "MersenneTwister", words, Box::new(move || twister(seed, words)), Box::new(move || port_twister(seed, words))),
         case(WHAT, "Pcg32", words, Box::new(move || pcg32(seed, words)), Box::new(move || port_pcg32(seed, words))),
         case(WHAT, "Pcg64", words, Box::new(move || pcg64(seed, words)), Box::new(move || port_pcg64(seed, words))),
         case(
@@ -58,11 +46,7 @@ fn with(word: u64, mut parts: Vec<u64>) -> Vec<u64> {
 }
 
 fn xoshiro(seed: u64, n: u64) -> Run {
-    timed(
-        Xoshiro256PlusPlus::from_u64_seed(seed),
-        |g| xor(g, n, Xoshiro256PlusPlus::next_u64),
-        |word, g| with(word, g.parts().into()),
-    )
+    timed(Xoshiro256PlusPlus::from_u64_seed(seed), |g| xor(g, n, Xoshiro256PlusPlus::next_u64), |word, g| with(word, g.parts().into()))
 }
 
 fn port_xoshiro(seed: u64, n: u64) -> Run {
@@ -74,19 +58,11 @@ fn port_xoshiro(seed: u64, n: u64) -> Run {
 }
 
 fn pcg32(seed: u64, n: u64) -> Run {
-    timed(
-        Pcg32::from_u64_seed(seed),
-        |g| xor(g, n, |g| g.next_u32().into()),
-        |word, g| with(word, <[u64; 2]>::from(g.parts()).into()),
-    )
+    timed(Pcg32::from_u64_seed(seed), |g| xor(g, n, |g| g.next_u32().into()), |word, g| with(word, <[u64; 2]>::from(g.parts()).into()))
 }
 
 fn port_pcg32(seed: u64, n: u64) -> Run {
-    timed(
-        port::pcg32_from_u64_seed(seed),
-        |g| port::pcg32_words(*g, n),
-        |d, _| with(d.word.into(), vec![d.next.state, d.next.inc]),
-    )
+    timed(port::pcg32_from_u64_seed(seed), |g| port::pcg32_words(*g, n), |d, _| with(d.word.into(), vec![d.next.state, d.next.inc]))
 }
 
 fn pcg64(seed: u64, n: u64) -> Run {
@@ -139,9 +115,5 @@ fn port_twister(seed: u64, n: u64) -> Run {
 
 /// Each word through the call that takes the whole generator and hands it back.
 fn port_twister_by_value(seed: u64, n: u64) -> Run {
-    timed(
-        port::mt_value_seed(seed as u32),
-        |g| port::mt_value_words(g.clone(), n),
-        |d, _| twister_parts(d.word, &d.next),
-    )
+    timed(port::mt_value_seed(seed as u32), |g| port::mt_value_words(g.clone(), n), |d, _| twister_parts(d.word, &d.next))
 }

@@ -105,9 +105,7 @@ impl Call {
             Call::Float => f64::from(g.float()).to_bits(),
             Call::Double => g.double().to_bits(),
             Call::Bool => g.bool(f64::from_bits(joined(a[0], a[1]))).into(),
-            Call::Uniform => {
-                g.uniform(f64::from_bits(joined(a[0], a[1])), f64::from_bits(joined(a[2], a[3]))).to_bits()
-            }
+            Call::Uniform => g.uniform(f64::from_bits(joined(a[0], a[1])), f64::from_bits(joined(a[2], a[3]))).to_bits(),
             Call::Made => 0,
             Call::Words => Digest::words((0..first).map(|_| g.rand())),
             Call::Draws => Digest::words((0..first).map(|k| g.bounded(bound_at(k)))),

@@ -22,9 +22,7 @@ const CALLS: [(&str, Call, Arguments); 23] = [
     ("seed", Call::Seed, |turn, simple| [edge(turn, simple), 0, 0, 0]),
     ("split", Call::Split, nothing),
     ("mti", Call::Mti, nothing),
-    ("set_mti", Call::SetMti, |turn, simple| {
-        [[0, 1, 226, 227, 623, 624].get(turn).copied().unwrap_or_else(|| simple.below(625)), 0, 0, 0]
-    }),
+    ("set_mti", Call::SetMti, |turn, simple| [[0, 1, 226, 227, 623, 624].get(turn).copied().unwrap_or_else(|| simple.below(625)), 0, 0, 0]),
     ("twist", Call::Twist, nothing),
     ("fill_bytes", Call::FillBytes, |turn, _| [(turn * turn * 3 - turn) as u32 / 2 % 2_600, 0, 0, 0]),
     ("bounded", Call::Bounded, |turn, simple| [bound(turn, simple), 0, 0, 0]),
@@ -72,12 +70,7 @@ pub fn calls() -> Vec<(String, Vec<Row>)> {
 
 /// The files of the makers: the generator as it is made.
 pub fn makers() -> Vec<(String, Vec<Row>)> {
-    let makers = [
-        ("seeds", Maker::Seed, 0),
-        ("streams", Maker::Stream, 2),
-        ("bytes", Maker::Bytes, 0),
-        ("parts", Maker::Parts, 0),
-    ];
+    let makers = [("seeds", Maker::Seed, 0), ("streams", Maker::Stream, 2), ("bytes", Maker::Bytes, 0), ("parts", Maker::Parts, 0)];
     let file = |(name, maker, first_kind): (&str, Maker, u32)| {
         let mut simple = Simple::new(100 + maker as u64);
         let mut rows = Vec::new();

@@ -89,9 +89,7 @@ impl Start {
             (2, Maker::Bytes) => RngBackend::Pcg32(Pcg32::from_seed(self.bytes())),
             (2, Maker::Parts) => RngBackend::Pcg32(Pcg32::from_parts(long(0), long(1))),
             (_, Maker::Seed) => RngBackend::Pcg64(Pcg64::from_u128_seed(wide(long(0), long(1)))),
-            (_, Maker::Stream) => {
-                RngBackend::Pcg64(Pcg64::from_seed_stream(wide(long(0), long(1)), wide(long(2), long(3))))
-            }
+            (_, Maker::Stream) => RngBackend::Pcg64(Pcg64::from_seed_stream(wide(long(0), long(1)), wide(long(2), long(3)))),
             (_, Maker::Bytes) => RngBackend::Pcg64(Pcg64::from_seed(self.bytes())),
             (_, Maker::Parts) => RngBackend::Pcg64(Pcg64::from_parts(wide(long(1), long(0)), wide(long(3), long(2)))),
         }

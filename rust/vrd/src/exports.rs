@@ -113,14 +113,7 @@ unsafe extern "C" {
     fn vrd_make_in(state: &mut State, table: &mut Table, kind: u32, seed: *const u8, length: usize) -> u32;
     fn vrd_fill_bytes_in(state: &mut State, table: &mut Table, dest: *mut u8, length: usize) -> u32;
     fn vrd_choose_in(state: &mut State, table: &mut Table, list: *const u32, length: usize, budget: u32) -> Choice;
-    fn vrd_rand_slice_in(
-        state: &mut State,
-        table: &mut Table,
-        list: *const u32,
-        length: usize,
-        window: usize,
-        budget: u32,
-    ) -> Number;
+    fn vrd_rand_slice_in(state: &mut State, table: &mut Table, list: *const u32, length: usize, window: usize, budget: u32) -> Number;
     fn vrd_shuffle_in(state: &mut State, table: &mut Table, list: *mut u32, length: usize, budget: u32) -> Number;
 }
 

@@ -66,10 +66,7 @@ impl Random {
             0 => Parts::Xoshiro256PlusPlus([w0, w1, w2, w3]),
             1 => Parts::MersenneTwister { table: &self.table, mti: mti as u32 },
             2 => Parts::Pcg32 { state: w0, inc: w1 },
-            _ => Parts::Pcg64 {
-                state: exports::Wide { high: w0, low: w1 }.into(),
-                inc: exports::Wide { high: w2, low: w3 }.into(),
-            },
+            _ => Parts::Pcg64 { state: exports::Wide { high: w0, low: w1 }.into(), inc: exports::Wide { high: w2, low: w3 }.into() },
         }
     }
 }

@@ -90,10 +90,7 @@ fn others(unit: &mut Random) -> Result<String, Refusal> {
     let mut bytes = [0; 5];
     unit.fill_bytes(&mut bytes);
     let listed: String = bytes.iter().map(|byte| format!(" {byte:02x}")).collect();
-    Ok(format!(
-        "  drift {drift}, letter {letter}, blank {blank}, wait {wait:.17}\n  bytes{listed}, then {:016x}\n",
-        unit.u64()
-    ))
+    Ok(format!("  drift {drift}, letter {letter}, blank {blank}, wait {wait:.17}\n  bytes{listed}, then {:016x}\n", unit.u64()))
 }
 
 /// The number that C sees.

@@ -13,11 +13,7 @@ fn names(text: &str, before: &str) -> BTreeSet<String> {
 /// The words of the text that begin with `vrd_` and end at a parenthesis.
 fn called(text: &str) -> BTreeSet<String> {
     let words = text.split_inclusive(|c: char| !(c.is_alphanumeric() || c == '_'));
-    words
-        .filter_map(|word| word.strip_suffix('('))
-        .filter(|word| word.starts_with("vrd_"))
-        .map(str::to_string)
-        .collect()
+    words.filter_map(|word| word.strip_suffix('(')).filter(|word| word.starts_with("vrd_")).map(str::to_string).collect()
 }
 
 fn exports(root: &Path) -> BTreeSet<String> {
@@ -29,8 +25,7 @@ fn exports(root: &Path) -> BTreeSet<String> {
 #[test]
 fn every_export_is_declared() {
     let root = Path::new(env!("CARGO_MANIFEST_DIR")).join("../..");
-    let (by_value, lent): (BTreeSet<_>, BTreeSet<_>) =
-        exports(&root).into_iter().partition(|name| name.ends_with("_by_value"));
+    let (by_value, lent): (BTreeSet<_>, BTreeSet<_>) = exports(&root).into_iter().partition(|name| name.ends_with("_by_value"));
     assert!(lent.contains("vrd_rand") && by_value.contains("vrd_rand_by_value"), "the exports were found");
     for (declarations, names) in [
         ("include/vrd.h", &lent),

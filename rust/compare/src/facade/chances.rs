@@ -51,11 +51,8 @@ fn chances(row: &mut Row, kind: usize) {
                 _ => (simple.next() >> 11) as f64 / (1u64 << 53) as f64,
             };
             // The table of refusals: NaN, below 0 or above 1. There the original panics.
-            let expected = if (0.0..=1.0).contains(&chance) {
-                Ok(Drawn { value: original.bool(chance), used })
-            } else {
-                Err(Refusal::Chance)
-            };
+            let expected =
+                if (0.0..=1.0).contains(&chance) { Ok(Drawn { value: original.bool(chance), used }) } else { Err(Refusal::Chance) };
             let found = port.bool(chance);
             row.case((expected, parts(&original)), (found, port.parts()), || format!("bool({chance:?})"));
         }

@@ -67,8 +67,7 @@ impl<A: Debug, V: PartialEq + Debug> Call<'_, A, V> {
     pub fn compare(&self, tally: &mut Tally) {
         for (kind, name) in KINDS.into_iter().enumerate() {
             tally.row(name, self.name, |row| {
-                let (still, mut lively): (Vec<_>, Vec<_>) =
-                    starts::all(kind).into_iter().partition(starts::stands_still);
+                let (still, mut lively): (Vec<_>, Vec<_>) = starts::all(kind).into_iter().partition(starts::stands_still);
                 self.without_end(row, &still);
                 self.long_runs(row, &lively);
                 lively.extend(rejecting::starts(kind));

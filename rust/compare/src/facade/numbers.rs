@@ -42,12 +42,7 @@ pub fn compare(tally: &mut Tally) {
 }
 
 /// `int` under either of its names.
-fn signed(
-    tally: &mut Tally,
-    name: &'static str,
-    original: OriginalCall<(i32, i32), Option<i32>>,
-    port: PortCall<(i32, i32), Option<i32>>,
-) {
+fn signed(tally: &mut Tally, name: &'static str, original: OriginalCall<(i32, i32), Option<i32>>, port: PortCall<(i32, i32), Option<i32>>) {
     let cases = word_pairs().chain(equal_and_all()).map(|(min, max)| {
         // The same distances, moved so that they begin at the least number; and about 0.
         let moved = |n: u32| n.wrapping_add(1 << 31) as i32;

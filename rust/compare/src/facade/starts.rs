@@ -44,8 +44,7 @@ fn made(kind: usize) -> Vec<Random> {
     let mut simple = Simple::new(7 + kind as u64);
     match kind {
         0 => {
-            let mut all: Vec<_> =
-                [0, 1, 42, u64::MAX].map(|seed| xoshiro(Xoshiro256PlusPlus::from_u64_seed(seed))).into();
+            let mut all: Vec<_> = [0, 1, 42, u64::MAX].map(|seed| xoshiro(Xoshiro256PlusPlus::from_u64_seed(seed))).into();
             all.push(xoshiro(Xoshiro256PlusPlus::from_seed([9; 32])));
             all.push(xoshiro(Xoshiro256PlusPlus::from_parts([1, 2, 3, 4])));
             all.push(xoshiro(Xoshiro256PlusPlus::from_parts([simple.next(), simple.next(), 0, 0])));
@@ -77,8 +76,7 @@ fn made(kind: usize) -> Vec<Random> {
 pub fn all(kind: usize) -> Vec<Random> {
     let mut all = made(kind);
     match kind {
-        0 => all
-            .extend([[0; 4], [u64::MAX; 4], [0, 0, 0, 1]].map(|state| xoshiro(Xoshiro256PlusPlus::from_parts(state)))),
+        0 => all.extend([[0; 4], [u64::MAX; 4], [0, 0, 0, 1]].map(|state| xoshiro(Xoshiro256PlusPlus::from_parts(state)))),
         1 => {
             for mt in [[0; 624], [u32::MAX; 624], [0x8000_0000; 624]] {
                 all.extend(POSITIONS.map(|mti| twister(mt, mti)));
