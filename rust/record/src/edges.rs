@@ -4,8 +4,8 @@
 use crate::call::Call;
 use crate::row::{row, Allowance, Row};
 use crate::samples::bound;
-use crate::simple::Simple;
 use crate::start::{Maker, Start};
+use simple::Simple;
 
 pub fn files() -> Vec<(String, Vec<Row>)> {
     [

@@ -1,6 +1,6 @@
 //! The generator before a call, in a few words: kind, maker, words skipped, and the maker's eight words.
 
-use crate::simple::Simple;
+use simple::Simple;
 use vrd_original::pcg::{Pcg32, Pcg64};
 use vrd_original::rand_core::SeedableRng;
 use vrd_original::xoshiro::Xoshiro256PlusPlus;

@@ -1,10 +1,14 @@
 //! Lists within a budget: `choose`, `rand_slice` and `shuffle`, for every length up to 64 and the longest, and every window.
 
 use super::draws::{value, Call, Case};
+use crate::fence::FencedList;
 use crate::tally::Tally;
 
-/// The longest list that the port takes.
-const LONGEST: usize = 65_536;
+/// The longest list that the port takes, as document 01 has it.
+pub const LONGEST: usize = 65_536;
+
+/// Entries beside a list.
+pub const MARK: u32 = 0x5AFE_C0DE;
 
 /// Every list up to this length is tried.
 const SHORT: usize = 64;
@@ -13,7 +17,9 @@ const SHORT: usize = 64;
 type Part = Option<*const [u32]>;
 
 pub fn compare(tally: &mut Tally) {
-    let entries: Vec<u32> = (0..LONGEST as u32).map(|i| i * 7 + 3).collect();
+    tally.row("no kind", "the longest list", |row| row.case(LONGEST, vrd::list_limit(), || "list_limit".into()));
+    let lent = FencedList::new(numbered(), MARK);
+    let entries = lent.checked();
     let lengths = || (0..=SHORT).chain([LONGEST - 1, LONGEST]);
     let call: Call<&[u32], Option<(usize, u32)>> = Call {
         name: "choose",
@@ -48,12 +54,20 @@ pub fn compare(tally: &mut Tally) {
             ordered
         },
         port: &|g, list, budget| {
-            let mut ordered = list.to_vec();
-            let answer = g.shuffle(&mut ordered, budget);
-            (answer.map(|drawn| drawn.used), ordered)
+            let mut ordered = FencedList::new(list.iter().copied(), MARK);
+            let answer = g.shuffle(ordered.list(), budget);
+            (answer.map(|drawn| drawn.used), ordered.checked().to_vec())
         },
     };
     call.compare(tally);
+    tally.row("all", "the lists of choose and rand_slice, as they came", |row| {
+        row.case(true, numbered().eq(lent.checked().iter().copied()), || "the list".into());
+    });
+}
+
+/// Entries that tell their places.
+fn numbered() -> impl Iterator<Item = u32> {
+    (0..LONGEST as u32).map(|i| i * 7 + 3)
 }
 
 /// Lengths with windows: every window of the short lists, and the edges of the longest.
