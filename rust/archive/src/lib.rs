@@ -1,5 +1,5 @@
-//! For build scripts: has the Rattle kit prove and compile a crate of exports, once for all of cargo's targets and profiles, and tells cargo
-//! to link the archive. It is copied to cargo's own folder, since `rt ci` removes those of the kit.
+//! For build scripts: has the Rattle kit prove and compile a crate of exports, once for all of cargo's targets and profiles, and tells
+//! cargo to link the archive. It is copied to cargo's own folder, since `rt ci` removes those of the kit.
 
 use std::fs::{self, File};
 use std::io::{self, BufRead, BufReader, ErrorKind, PipeReader, Write};
@@ -67,8 +67,8 @@ fn is_older(path: &Path, than: SystemTime) -> io::Result<bool> {
 fn proved(root: &Path, name: &str) -> Result<(), String> {
     let (mut kit, lines) = started(root, name).map_err(|e| match e.kind() {
         ErrorKind::NotFound => format!(
-            "the Rattle kit is not on this machine: its command 'rt' is not on the PATH, and only it can compile the crate {name} that this \
-             program links."
+            "the Rattle kit is not on this machine: its command 'rt' is not on the PATH, and only it can compile the crate {name} \
+             that this program links."
         ),
         _ => format!("'rt staticlib {name}' could not be started: {e}"),
     })?;
@@ -88,8 +88,8 @@ fn started(root: &Path, name: &str) -> io::Result<(Child, PipeReader)> {
     Ok((command.spawn()?, reader))
 }
 
-/// Hands the kit's lines to cargo, which shows them with -vv, and those that name a crate also to the terminal, if there is one: cargo shows
-/// nothing of a build script while it runs. The last lines are the answer.
+/// Hands the kit's lines to cargo, which shows them with -vv, and those that name a crate also to the terminal, if there is one: cargo
+/// shows nothing of a build script while it runs. The last lines are the answer.
 fn passed_on(name: &str, lines: PipeReader) -> String {
     let mut terminal = File::options().write(true).open("/dev/tty").ok();
     let mut show = |line: &str| {

@@ -1,5 +1,5 @@
-//! The wrapping helpers against the Rust's own: products, rotations by every amount, and numbers of 128 bits. Each pairs the edges of its width
-//! with one another.
+//! The wrapping helpers against the Rust's own: products, rotations by every amount, and numbers of 128 bits. Each pairs the edges of its
+//! width with one another.
 
 use crate::seeds;
 use crate::tally::Tally;

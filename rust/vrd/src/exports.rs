@@ -1,7 +1,7 @@
-//! The names, arguments and answers of the exports of the Rattle crate `vrd_ffi`: the one place to change when that crate does, and the only
-//! one with unsafe code. An export takes the generator as two lent arrays and changes them there. The exports are proved total: they ask
-//! nothing of a caller beyond the types of their arguments. That is why they are declared as safe functions, but for those that take a
-//! slice by its address.
+//! The names, arguments and answers of the exports of the Rattle crate `vrd_ffi`: the one place to change when that crate does, and the
+//! only one with unsafe code. An export takes the generator as two lent arrays and changes them there. The exports are proved total: they
+//! ask nothing of a caller beyond the types of their arguments. That is why they are declared as safe functions, but for those that take
+//! a slice by its address.
 
 /// A generator without its table: the kind, the twister's position (of which the low 32 bits count), and the kind's four small words.
 pub type State = [u64; 6];
