@@ -2,7 +2,7 @@
 //! are made beforehand and compared afterwards.
 
 use crate::kinds;
-use crate::timing::{timed, Case};
+use crate::timing::{timed, Case, Limit};
 use vrd_original::rand_core::TryRng;
 
 /// Bytes of the buffer, and how often it is filled in a run.
@@ -29,6 +29,7 @@ fn filling(kind: usize, seed: u64) -> Case {
         kind: kinds::NAMES[kind],
         count: FILLINGS * BYTES as u64,
         unit: "byte",
+        limit: Limit::Times(1.0),
         original: Box::new(move || {
             timed(
                 (kinds::original(kind, seed), vec![0u8; BYTES]),
@@ -61,6 +62,7 @@ fn shuffle(kind: usize, seed: u64) -> Case {
         kind: kinds::NAMES[kind],
         count: SHUFFLES * u64::from(ENTRIES),
         unit: "entry",
+        limit: Limit::Times(1.6),
         original: Box::new(move || {
             timed(
                 (kinds::original(kind, seed), entries()),

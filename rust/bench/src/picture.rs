@@ -1,6 +1,6 @@
 //! The table as a picture: for each thing that is timed a group of bars, two for each kind.
 
-use crate::timing::Line;
+use crate::timing::{Limit, Line};
 use std::fmt::Write;
 
 const ROW: usize = 13;
@@ -19,7 +19,8 @@ pub fn svg(lines: &[Line], title: &str) -> String {
         for line in group {
             let _ = writeln!(body, r#"<text x="{}" y="{}" text-anchor="end">{}</text>"#, LEFT - 6.0, y + 14, line.kind);
             bar(&mut body, y, line.original, longest, "#9aa5b1", "original");
-            bar(&mut body, y + ROW, line.port, longest, "#2f6f9f", "port");
+            let side = if matches!(line.limit, Limit::Peer) { "peer" } else { "port" };
+            bar(&mut body, y + ROW, line.port, longest, "#2f6f9f", side);
             y += 2 * ROW + 5;
         }
         y += GAP - 16;

@@ -53,7 +53,8 @@ impl Start {
         }
     }
 
-    /// Any words, one maker after the other, some words skipped; each fifth time the first word is 0. The twister's position is at most 624.
+    /// Any words, one maker after the other, some words skipped; each fifth time the first word is 0. The twister's position is 624 or
+    /// less.
     pub fn any(kind: u32, turn: usize, simple: &mut Simple) -> Self {
         if turn % 5 == 4 {
             return Self::zero_first(kind, simple);
