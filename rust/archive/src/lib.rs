@@ -75,7 +75,9 @@ fn proved(root: &Path, name: &str) -> Result<(), String> {
     let last = passed_on(name, lines);
     match kit.wait() {
         Ok(status) if status.success() => Ok(()),
-        Ok(status) => Err(format!("'rt staticlib {name}' in the root of this repository failed ({status}): {last}")),
+        Ok(status) => Err(format!(
+            "'rt staticlib {name}' in the root of this repository failed ({status}); target/log there has all that it said: {last}"
+        )),
         Err(e) => Err(format!("'rt staticlib {name}' cannot be waited for: {e}")),
     }
 }
