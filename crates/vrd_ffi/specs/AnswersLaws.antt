@@ -1,25 +1,70 @@
--- The laws of answers at the boundary: a kind above 3 is refused, and the answer to every other is the library's.
+-- The laws of the rule: a kind above 3 is refused; of every other what is told is the library's reply, written back; and what is told is that answer,
+-- that state and that table.
 use mathlib.Core.Path.{_≡_, refl, sym, _∙_, ap}
+use mathlib.Core.Bool.{Bool, true, false}
 use mathlib.Core.List.{List}
 use Prim.Native.Nat.{ℕ, _≤_, _<_}
-use borrow.Author.Tests.{le-leb, lt-leb}
+use borrow.Author.Tests.{le-leb, lt-leb, ne-eqb}
+use lib.Dec.{leb}
 use Rattle.words.specs.Refusal as refusal
-use Rattle.random.specs.Generator.{Gen}
-use Rattle.random.specs.Lent.{lent}
+use Rattle.random.specs.Lent.{joinedWith}
+use Rattle.random.specs.declared.backend.Random.{Random}
 use Rattle.random.specs.declared.engine.Engine.{Engine}
-use Rattle.vrd_ffi.specs.declared.boundary.Parts.{Parts}
-use Rattle.vrd_ffi.specs.Answers.{Answered, answered, atBoundary, Held, held, become}
-use Rattle.vrd_ffi.specs.Boundary.{partsWith}
+use Rattle.vrd_ffi.specs.State.{kindIn, engineFrom, generatorIn, stateWith, stateAfter}
+use Rattle.vrd_ffi.specs.Answers.{Told, told, Reply, reply, gives, formed, ofKnown, written, atBoundary}
 
-module _ {A : Type 0} (p : Parts) (kept : A) (known : Answered A) where
-  pub unknown-kind : 3 < p .kind → answered refusal.kind kept ≡ atBoundary p kept known
+pub told-apart : {A : Type 0} {a b : A} {s s′ t t′ : List ℕ} → told a s t ≡ told b s′ t′ → (a ≡ b) × (s ≡ s′) × (t ≡ t′)
+told-apart {A} h = (ap (λ (x : Told A). x .answer) h, ap (λ (x : Told A). x .state) h, ap (λ (x : Told A). x .table) h)
+
+module _ {A : Type 0} (s : List ℕ) (refused known : A) where
+  pub of-unknown : 3 < kindIn s → refused ≡ ofKnown s refused known
+  unfolding ofKnown
+  of-unknown h = rw (lt-leb (kindIn s) 3 h)
+
+  pub of-known : kindIn s ≤ 3 → known ≡ ofKnown s refused known
+  unfolding ofKnown
+  of-known h = rw (le-leb (kindIn s) 3 h)
+
+module _ {A : Type 0} (s t : List ℕ) (none : A) (call : Random → Reply A) where
+  pub unknown-kind : 3 < kindIn s → told none s t ≡ atBoundary s t none call
   unfolding atBoundary
-  unknown-kind h = rw (lt-leb (p .kind) 3 h)
+  unknown-kind h = of-unknown s (told none s t) (written s (call (generatorIn s t))) h
 
-  pub known-kind : p .kind ≤ 3 → known ≡ atBoundary p kept known
+  pub known-kind : kindIn s ≤ 3 → written s (call (generatorIn s t)) ≡ atBoundary s t none call
   unfolding atBoundary
-  known-kind h = rw (le-leb (p .kind) 3 h)
+  known-kind h = of-known s (told none s t) (written s (call (generatorIn s t))) h
 
--- what a call over the lent table leaves: the engine and the table that make g
-pub becomes : {A : Type 0} (p : Parts) (v : A) (e : Engine) (t : List ℕ) (g : Gen) → lent e t ≡ g → held v (partsWith e p) t ≡ become p v g
-becomes p v e t g h = ap (become p v) h
+  -- the engine and the table that a library call leaves, settled into the state
+  pub settled : kindIn s ≤ 3 → (n : ℕ) (a : A) (e : Engine) (u s′ : List ℕ) → s′ ≡ stateAfter n e s
+      → reply n a (joinedWith e u) ≡ call (generatorIn s t) → told a s′ u ≡ atBoundary s t none call
+  settled k n a e u s′ w h = ap (λ (x : List ℕ). told a x u) w ∙ ap (written s) h ∙ known-kind k
+
+  -- the same where the call refuses nothing
+  pub wrote : kindIn s ≤ 3 → (a : A) (e : Engine) (u s′ : List ℕ) → s′ ≡ stateWith e s
+      → gives a (joinedWith e u) ≡ call (generatorIn s t) → told a s′ u ≡ atBoundary s t none call
+  unfolding stateAfter
+  wrote k a e u s′ w h = settled k 0 a e u s′ w h
+
+  -- a refused call, of which nothing was written
+  pub kept : kindIn s ≤ 3 → (n : ℕ) (a : A) → (n ≡ refusal.answered → ⊥) → reply n a (generatorIn s t) ≡ call (generatorIn s t)
+      → told a s t ≡ atBoundary s t none call
+  unfolding stateAfter
+  kept k n a h e = settled k n a (engineFrom s) t s (rw (ne-eqb n 0 h)) e
+
+-- two calls that reply the same of the generator that was lent
+pub same-reply : {A : Type 0} (s t : List ℕ) (none : A) (one two : Random → Reply A) → one (generatorIn s t) ≡ two (generatorIn s t)
+    → atBoundary s t none one ≡ atBoundary s t none two
+unfolding atBoundary
+same-reply {A} s t none one two h = ap (λ (r : Reply A). ofKnown s (told none s t) (written s r)) h
+
+-- an answer handed out in another form
+pub told-formed : {A B : Type 0} (s t : List ℕ) (none : A) (call : Random → Reply A) (f : A → B) {a : A} {s′ t′ : List ℕ} → told a s′ t′ ≡ atBoundary s t none call
+    → told (f a) s′ t′ ≡ atBoundary s t (f none) (λ g. formed f (call g))
+unfolding atBoundary ofKnown
+told-formed {A} {B} s t none call f h = ap (λ (x : Told A). told (f (x .answer)) (x .state) (x .table)) h ∙ go (leb (kindIn s) 3) refl
+  where
+    go : (b : Bool) → leb (kindIn s) 3 ≡ b
+        → told (f (atBoundary s t none call .answer)) (atBoundary s t none call .state) (atBoundary s t none call .table)
+        ≡ atBoundary s t (f none) (λ g. formed f (call g))
+    go true e = rw e
+    go false e = rw e

@@ -1,39 +1,20 @@
--- What the exports answer, and that the conversions at the boundary lose nothing.
-pub mod Boundary
-pub mod BoundaryLaws
+-- The exports for Rust and C: in the order in which to read it.
+
+-- What a reader must believe: the lent state, the one rule, what is handed out, and each call by them.
+pub mod State
 pub mod Answers
-pub mod AnswersLaws
--- Over a lent table.
-pub mod WordCalls
-pub mod WordCallsLaws
-pub mod StateCalls
-pub mod StateCallsLaws
-pub mod MakingCalls
-pub mod MakingCallsLaws
-pub mod FloatCalls
-pub mod FloatCallsLaws
-pub mod DrawCalls
-pub mod DrawCallsLaws
-pub mod ListCalls
-pub mod ListCallsLaws
--- In place.
-pub mod InPlace
-pub mod InPlaceLaws
--- By value.
-pub mod ByValue
-pub mod HeldWords
-pub mod HeldState
-pub mod HeldStateLaws
-pub mod HeldMaking
-pub mod HeldFloats
-pub mod HeldDraws
-pub mod HeldLists
--- The contracts by name, and that each leaves one answer.
+pub mod Handed
 pub mod Promises
-pub mod PromisesByValue
-pub mod ReadBack
-pub mod ReadBackHeld
+-- For code over the lent state: words drawn off it, and a draw's answer in one number.
+pub mod Moves
+pub mod Packed
+-- Laws.
+pub mod AnswersLaws
+pub mod MovesLaws
+pub mod PackedLaws
+pub mod Counting
+pub mod Choosing
+pub mod DrawLaws
 pub mod PromisesLaws
-pub mod PromisesByValueLaws
-pub mod PromisesInPlace
-pub mod PromisesInPlaceLaws
+pub mod WordLaws
+pub mod CallLaws

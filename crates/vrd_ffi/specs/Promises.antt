@@ -1,138 +1,183 @@
--- What the two conversions and each export over a lent table promise of their answer and that table: the contracts of src/boundary.rt and
--- src/*_calls.rt, by name.
-use mathlib.Core.List.{List}
-use mathlib.Core.Path.{_≡_}
+-- What each export promises of its answer, and of the state, the table, the list and the buffer that it leaves: by the one rule of Answers.antt the
+-- library's call by value, of the generator that was lent. The contracts of src/, by name.
 use Prim.Native.Nat.{ℕ}
 use lib.Ieee.{Float}
-use lib.IntN.{ℤ}
-use Rattle.making.specs.Make.{ofPcg32, ofPcg64, ofXoshiro}
-use Rattle.pcg.specs.Pcg32 as pcg32
-use Rattle.pcg.specs.Pcg64 as pcg64
+use lib.IntN.{ℤ, pos}
+use lib.ListN.{length}
+use mathlib.Core.Bool.{false}
+use mathlib.Core.List.{List}
+use mathlib.Core.Path.{_≡_}
+use Rattle.words.specs.Draw.{boundedBy}
+use Rattle.words.specs.Refusal as refusal
 use Rattle.wrapping.specs.Wide.{value}
 use Rattle.wrapping.specs.declared.wide.Wide.{Wide}
 use Rattle.xoshiro.specs.Seed as xoshiro
+use Rattle.pcg.specs.Pcg32 as pcg32
+use Rattle.pcg.specs.Pcg64 as pcg64
+use Rattle.mersenne_twister.specs.Table as twister
+use Rattle.random.specs.Generator.{later, wordsOf, randOf, u64Of, i64Of, pseudoOf}
+use Rattle.random.specs.Lent.{tableIn}
 use Rattle.random.specs.declared.engine.Engine.{Engine}
-use Rattle.vrd_ffi.specs.Boundary.{engineOf, partsWith}
-use Rattle.vrd_ffi.specs.DrawCalls.{boundedAt, charAt, intAt, integer, number, randomRangeAt, uintAt}
-use Rattle.vrd_ffi.specs.FloatCalls.{boolAt, coin, doubleAt, floatAt, number32, number64, uniformAt}
-use Rattle.vrd_ffi.specs.ListCalls.{chooseAt, chosen, fillBytesAt, filled, ordered, randSliceAt, shuffleAt, started}
-use Rattle.vrd_ffi.specs.MakingCalls.{begun, made, makeAt, partsOf, twisterAt}
-use Rattle.vrd_ffi.specs.StateCalls.{Same, divided, moved, mtiAt, placed, seedAt, setMtiAt, splitAt, twistAt, unlent}
-use Rattle.vrd_ffi.specs.WordCalls.{i64At, pseudoAt, randAt, signed64, u64At, word32, word64}
-use Rattle.vrd_ffi.specs.declared.boundary.Parts.{Parts}
-use Rattle.vrd_ffi.specs.declared.draw_calls.Integer.{Integer}
-use Rattle.vrd_ffi.specs.declared.draw_calls.Number.{Number}
-use Rattle.vrd_ffi.specs.declared.float_calls.Coin.{Coin}
-use Rattle.vrd_ffi.specs.declared.float_calls.Number32.{Number32}
-use Rattle.vrd_ffi.specs.declared.float_calls.Number64.{Number64}
-use Rattle.vrd_ffi.specs.declared.list_calls.Chosen.{Chosen}
-use Rattle.vrd_ffi.specs.declared.list_calls.Ordered.{Ordered}
-use Rattle.vrd_ffi.specs.declared.list_calls.Started.{Started}
-use Rattle.vrd_ffi.specs.declared.making_calls.Made.{Made}
-use Rattle.vrd_ffi.specs.declared.state_calls.Divided.{Divided}
-use Rattle.vrd_ffi.specs.declared.state_calls.Equality.{Equality}
-use Rattle.vrd_ffi.specs.declared.state_calls.Moved.{Moved}
-use Rattle.vrd_ffi.specs.declared.state_calls.Position.{Position}
-use Rattle.vrd_ffi.specs.declared.word_calls.Signed64.{Signed64}
-use Rattle.vrd_ffi.specs.declared.word_calls.Word32.{Word32}
-use Rattle.vrd_ffi.specs.declared.word_calls.Word64.{Word64}
+use Rattle.bounded.specs.Ranges.{rangeBy, charBy}
+use Rattle.spans.specs.Spans.{uintBy, intBy}
+use Rattle.lists.specs.Choosing as choosing
+use Rattle.lists.specs.Limit.{listLimit}
+use Rattle.lists.specs.Slicing as slicing
+use Rattle.shuffle.specs.Shuffle.{shuffleBy, shuffled}
+use Rattle.filling.specs.Fill.{filledBytes, fillWords}
+use Rattle.float_draws.specs.Coins.{flipFrom}
+use Rattle.float_draws.specs.Spreads.{spreadFrom}
+use Rattle.float_draws.specs.Units.{floatFrom, doubleFrom}
+use Rattle.making.specs.Make.{madeBytes, ofXoshiro, ofTwister, ofPcg32, ofPcg64}
+use Rattle.making.specs.Seeding.{seededTo}
+use Rattle.parts.specs.Decides.{Decides}
+use Rattle.parts.specs.Position.{positionOf, storedAt, twisted}
+use Rattle.parts.specs.Splitting.{engineSplit}
+use Rattle.vrd_ffi.specs.declared.answers.Choice.{Choice}
+use Rattle.vrd_ffi.specs.declared.answers.Coin.{Coin}
+use Rattle.vrd_ffi.specs.declared.answers.Equality.{Equality}
+use Rattle.vrd_ffi.specs.declared.answers.Integer.{Integer}
+use Rattle.vrd_ffi.specs.declared.answers.Number.{Number}
+use Rattle.vrd_ffi.specs.declared.answers.Number32.{Number32}
+use Rattle.vrd_ffi.specs.declared.answers.Number64.{Number64}
+use Rattle.vrd_ffi.specs.declared.answers.SignedWord.{SignedWord}
+use Rattle.vrd_ffi.specs.declared.answers.Word.{Word}
+use Rattle.vrd_ffi.specs.Answers.{told, gives, formed, ofKnown, atBoundary}
+use Rattle.vrd_ffi.specs.Handed.{word, signedWord, number, integer, choice, number32, number64, coin, zero32, zero64}
+use Rattle.vrd_ffi.specs.Handed.{wordOf32, wordOf64, signedOf64, drawnBy, countedBy, choiceOf, startOf, floatOf, doubleOf, coinOf, spreadOf}
+use Rattle.vrd_ffi.specs.Handed.{Listed, listed, stateMade, made, halves, divided, sameRefusal, Equal}
+use Rattle.vrd_ffi.specs.State.{backendIn, positionIn, engineFrom, stateWith}
 
-abbrev pub EnginePromise : Parts → Engine → Type 0
-EnginePromise p r = r ≡ engineOf p
+-- ---- the two conversions
 
-abbrev pub PartsWithPromise : Engine → Parts → Parts → Type 0
-PartsWithPromise e p r = r ≡ partsWith e p
+abbrev pub EngineInPromise : List ℕ → Engine → Type 0
+EngineInPromise s r = r ≡ engineFrom s
 
-abbrev pub RandPromise : Parts → List ℕ → Word32 → List ℕ → Type 0
-RandPromise p mt r mt′ = word32 r mt′ ≡ randAt p mt
+abbrev pub WritePromise : Engine → List ℕ → List ℕ → Type 0
+WritePromise e s s′ = s′ ≡ stateWith e s
 
-abbrev pub U64Promise : Parts → List ℕ → Word64 → List ℕ → Type 0
-U64Promise p mt r mt′ = word64 r mt′ ≡ u64At p mt
+-- ---- words
 
-abbrev pub I64Promise : Parts → List ℕ → Signed64 → List ℕ → Type 0
-I64Promise p mt r mt′ = signed64 r mt′ ≡ i64At p mt
+abbrev pub VrdRandPromise : List ℕ → List ℕ → Word → List ℕ → List ℕ → Type 0
+VrdRandPromise s t r s′ t′ = told r s′ t′ ≡ atBoundary s t (word 0 refusal.kind) (λ g. wordOf32 (randOf g))
 
-abbrev pub PseudoPromise : Parts → List ℕ → Word32 → List ℕ → Type 0
-PseudoPromise p mt r mt′ = word32 r mt′ ≡ pseudoAt p mt
+abbrev pub VrdU64Promise : List ℕ → List ℕ → Word → List ℕ → List ℕ → Type 0
+VrdU64Promise s t r s′ t′ = told r s′ t′ ≡ atBoundary s t (word 0 refusal.kind) (λ g. wordOf64 (u64Of g))
 
-abbrev pub SeedPromise : Parts → List ℕ → ℕ → Moved → List ℕ → Type 0
-SeedPromise p mt seed r mt′ = moved r mt′ ≡ seedAt p mt seed
+abbrev pub VrdI64Promise : List ℕ → List ℕ → SignedWord → List ℕ → List ℕ → Type 0
+VrdI64Promise s t r s′ t′ = told r s′ t′ ≡ atBoundary s t (signedWord (pos 0) refusal.kind) (λ g. signedOf64 (i64Of g))
 
-abbrev pub TwistPromise : Parts → List ℕ → Moved → List ℕ → Type 0
-TwistPromise p mt r mt′ = moved r mt′ ≡ twistAt p mt
+abbrev pub VrdPseudoPromise : List ℕ → List ℕ → Word → List ℕ → List ℕ → Type 0
+VrdPseudoPromise s t r s′ t′ = told r s′ t′ ≡ atBoundary s t (word 0 refusal.kind) (λ g. wordOf32 (pseudoOf g))
 
-abbrev pub SetMtiPromise : Parts → ℕ → Moved → Type 0
-SetMtiPromise p value r = unlent r ≡ setMtiAt p value
+-- ---- numbers drawn within a budget
 
-abbrev pub MtiPromise : Parts → Position → Type 0
-MtiPromise p r = placed r ≡ mtiAt p
+abbrev pub VrdBoundedPromise : List ℕ → List ℕ → (r budget : ℕ) → Number → List ℕ → List ℕ → Type 0
+VrdBoundedPromise s t r budget a s′ t′ = told a s′ t′ ≡ atBoundary s t (number 0 0 refusal.kind) (drawnBy (λ w. boundedBy w r budget))
 
-abbrev pub SplitPromise : Parts → Divided → Type 0
-SplitPromise p r = divided r ≡ splitAt p
+abbrev pub VrdRandomRangePromise : List ℕ → List ℕ → (min max budget : ℕ) → Number → List ℕ → List ℕ → Type 0
+VrdRandomRangePromise s t min max budget a s′ t′ =
+    told a s′ t′ ≡ atBoundary s t (number 0 0 refusal.kind) (drawnBy (λ w. rangeBy w min max budget))
 
-abbrev pub SamePromise : Parts → List ℕ → Parts → List ℕ → Equality → Type 0
-SamePromise p mt q other r = Same r p mt q other
+abbrev pub VrdCharPromise : List ℕ → List ℕ → (budget : ℕ) → Number → List ℕ → List ℕ → Type 0
+VrdCharPromise s t budget a s′ t′ = told a s′ t′ ≡ atBoundary s t (number 0 0 refusal.kind) (drawnBy (λ w. charBy w budget))
 
-abbrev pub MakePromise : ℕ → List ℕ → List ℕ → Made → List ℕ → Type 0
-MakePromise kind seed mt r mt′ = made r mt′ ≡ makeAt kind seed mt
+abbrev pub VrdUintPromise : List ℕ → List ℕ → (min max budget : ℕ) → Number → List ℕ → List ℕ → Type 0
+VrdUintPromise s t min max budget a s′ t′ =
+    told a s′ t′ ≡ atBoundary s t (number 0 0 refusal.kind) (drawnBy (λ w. uintBy w min max budget))
 
-abbrev pub MersenneTwisterWithSeedPromise : ℕ → List ℕ → Parts → List ℕ → Type 0
-MersenneTwisterWithSeedPromise seed mt r mt′ = begun r mt′ ≡ twisterAt mt seed
-
-abbrev pub XoshiroWithSeedPromise : ℕ → Parts → Type 0
-XoshiroWithSeedPromise seed r = r ≡ partsOf (ofXoshiro (xoshiro.seeded seed))
-
-abbrev pub Pcg32WithSeedPromise : ℕ → Parts → Type 0
-Pcg32WithSeedPromise seed r = r ≡ partsOf (ofPcg32 (pcg32.seeded seed pcg32.defaultStream))
-
-abbrev pub Pcg64WithSeedPromise : Wide → Parts → Type 0
-Pcg64WithSeedPromise seed r = r ≡ partsOf (ofPcg64 (pcg64.seeded (value seed) pcg64.defaultStream))
-
-abbrev pub Pcg32WithStreamPromise : ℕ → ℕ → Parts → Type 0
-Pcg32WithStreamPromise seed stream r = r ≡ partsOf (ofPcg32 (pcg32.seeded seed stream))
-
-abbrev pub Pcg64WithStreamPromise : Wide → Wide → Parts → Type 0
-Pcg64WithStreamPromise seed stream r = r ≡ partsOf (ofPcg64 (pcg64.seeded (value seed) (value stream)))
-
-abbrev pub FloatPromise : Parts → List ℕ → Number32 → List ℕ → Type 0
-FloatPromise p mt r mt′ = number32 r mt′ ≡ floatAt p mt
-
-abbrev pub DoublePromise : Parts → List ℕ → Number64 → List ℕ → Type 0
-DoublePromise p mt r mt′ = number64 r mt′ ≡ doubleAt p mt
-
-abbrev pub BoolPromise : Parts → List ℕ → Float → Coin → List ℕ → Type 0
-BoolPromise p mt chance r mt′ = coin r mt′ ≡ boolAt p mt chance
-
-abbrev pub UniformPromise : Parts → List ℕ → Float → Float → Number64 → List ℕ → Type 0
-UniformPromise p mt low high r mt′ = number64 r mt′ ≡ uniformAt p mt (record { low = low; high = high })
-
-abbrev pub BoundedPromise : Parts → List ℕ → ℕ → ℕ → Number → List ℕ → Type 0
-BoundedPromise p mt r budget a mt′ = number a mt′ ≡ boundedAt p mt r budget
-
-abbrev pub RandomRangePromise : Parts → List ℕ → ℕ → ℕ → ℕ → Number → List ℕ → Type 0
-RandomRangePromise p mt min max budget a mt′ = number a mt′ ≡ randomRangeAt p mt min max budget
-
-abbrev pub CharPromise : Parts → List ℕ → ℕ → Number → List ℕ → Type 0
-CharPromise p mt budget a mt′ = number a mt′ ≡ charAt p mt budget
-
-abbrev pub UintPromise : Parts → List ℕ → ℕ → ℕ → ℕ → Number → List ℕ → Type 0
-UintPromise p mt min max budget a mt′ = number a mt′ ≡ uintAt p mt min max budget
-
-abbrev pub IntPromise : Parts → List ℕ → ℤ → ℤ → ℕ → Integer → List ℕ → Type 0
-IntPromise p mt min max budget a mt′ = integer a mt′ ≡ intAt p mt min max budget
+abbrev pub VrdIntPromise : List ℕ → List ℕ → (min max : ℤ) (budget : ℕ) → Integer → List ℕ → List ℕ → Type 0
+VrdIntPromise s t min max budget a s′ t′ =
+    told a s′ t′ ≡ atBoundary s t (integer (pos 0) 0 refusal.kind) (countedBy (λ w. intBy w min max budget))
 
 -- `range` is `int` by its other name
-abbrev pub RangePromise : Parts → List ℕ → ℤ → ℤ → ℕ → Integer → List ℕ → Type 0
-RangePromise = IntPromise
+abbrev pub VrdRangePromise : List ℕ → List ℕ → (min max : ℤ) (budget : ℕ) → Integer → List ℕ → List ℕ → Type 0
+VrdRangePromise = VrdIntPromise
 
-abbrev pub ChoosePromise : Parts → List ℕ → List ℕ → ℕ → Chosen → List ℕ → Type 0
-ChoosePromise p mt list budget a mt′ = chosen a mt′ ≡ chooseAt p mt list budget
+-- ---- lists and buffers
 
-abbrev pub RandSlicePromise : Parts → List ℕ → List ℕ → ℕ → ℕ → Started → List ℕ → Type 0
-RandSlicePromise p mt list window budget a mt′ = started a mt′ ≡ randSliceAt p mt list window budget
+abbrev pub VrdChoosePromise : List ℕ → List ℕ → (list : List ℕ) (budget : ℕ) → Choice → List ℕ → List ℕ → Type 0
+VrdChoosePromise s t list budget a s′ t′ =
+    told a s′ t′ ≡ atBoundary s t (choice 0 0 0 refusal.kind) (λ g. choiceOf (choosing.chosenBy g (choosing.chooseBy (wordsOf g) list budget)))
 
-abbrev pub ShufflePromise : Parts → List ℕ → List ℕ → ℕ → Ordered → List ℕ → List ℕ → Type 0
-ShufflePromise p mt list budget a mt′ list′ = ordered a mt′ list′ ≡ shuffleAt p mt list budget
+abbrev pub VrdRandSlicePromise : List ℕ → List ℕ → (list : List ℕ) (window budget : ℕ) → Number → List ℕ → List ℕ → Type 0
+VrdRandSlicePromise s t list window budget a s′ t′ =
+    told a s′ t′
+    ≡ atBoundary s t (number 0 0 refusal.kind) (λ g. startOf (slicing.startedBy g (slicing.sliceBy (wordsOf g) (length list) window budget)))
 
-abbrev pub FillBytesPromise : Parts → List ℕ → List ℕ → Moved → List ℕ → List ℕ → Type 0
-FillBytesPromise p mt dest r mt′ dest′ = filled r mt′ dest′ ≡ fillBytesAt p mt dest
+-- the list too is what the call leaves
+abbrev pub VrdShufflePromise : List ℕ → List ℕ → (list : List ℕ) (budget : ℕ) → Number → List ℕ → List ℕ → (list′ : List ℕ) → Type 0
+VrdShufflePromise s t list budget a s′ t′ list′ =
+    told (listed a list′) s′ t′
+    ≡ atBoundary s t (listed (number 0 0 refusal.kind) list)
+    (λ g. formed (λ (x : Number). listed x (shuffled (wordsOf g) list budget)) (drawnBy (λ w. shuffleBy w (length list) budget) g))
+
+abbrev pub VrdFillBytesPromise : List ℕ → List ℕ → (dest : List ℕ) → ℕ → List ℕ → List ℕ → (dest′ : List ℕ) → Type 0
+VrdFillBytesPromise s t dest r s′ t′ dest′ =
+    told (listed r dest′) s′ t′
+    ≡ atBoundary s t (listed refusal.kind dest)
+    (λ g. gives (listed refusal.answered (filledBytes g (length dest))) (later (fillWords g (length dest)) g))
+
+abbrev pub VrdListLimitPromise : ℕ → Type 0
+VrdListLimitPromise r = r ≡ listLimit
+
+-- ---- floats
+
+abbrev pub VrdFloatPromise : List ℕ → List ℕ → Number32 → List ℕ → List ℕ → Type 0
+VrdFloatPromise s t r s′ t′ = told r s′ t′ ≡ atBoundary s t (number32 zero32 refusal.kind) (λ g. floatOf (floatFrom g))
+
+abbrev pub VrdDoublePromise : List ℕ → List ℕ → Number64 → List ℕ → List ℕ → Type 0
+VrdDoublePromise s t r s′ t′ = told r s′ t′ ≡ atBoundary s t (number64 zero64 refusal.kind) (λ g. doubleOf (doubleFrom g))
+
+abbrev pub VrdBoolPromise : List ℕ → List ℕ → (chance : Float) → Coin → List ℕ → List ℕ → Type 0
+VrdBoolPromise s t chance r s′ t′ = told r s′ t′ ≡ atBoundary s t (coin false 0 refusal.kind) (λ g. coinOf (flipFrom g chance))
+
+abbrev pub VrdUniformPromise : List ℕ → List ℕ → (low high : Float) → Number64 → List ℕ → List ℕ → Type 0
+VrdUniformPromise s t low high r s′ t′ =
+    told r s′ t′ ≡ atBoundary s t (number64 zero64 refusal.kind) (λ g. spreadOf (spreadFrom g (record { low = low; high = high })))
+
+-- ---- makers
+
+abbrev pub VrdMakePromise : List ℕ → List ℕ → (kind : ℕ) (seed : List ℕ) → ℕ → List ℕ → List ℕ → Type 0
+VrdMakePromise s t kind seed r s′ t′ = told r s′ t′ ≡ made s t (madeBytes kind seed)
+
+abbrev pub VrdXoshiroWithSeedPromise : ℕ → List ℕ → Type 0
+VrdXoshiroWithSeedPromise seed s′ = s′ ≡ stateMade (ofXoshiro (xoshiro.seeded seed))
+
+abbrev pub VrdMersenneTwisterWithSeedPromise : ℕ → List ℕ → List ℕ → Type 0
+VrdMersenneTwisterWithSeedPromise seed s′ t′ =
+    let g = ofTwister (twister.seeded seed) in told refusal.answered s′ t′ ≡ told refusal.answered (stateMade g) (tableIn g)
+
+abbrev pub VrdPcg32WithSeedPromise : ℕ → List ℕ → Type 0
+VrdPcg32WithSeedPromise seed s′ = s′ ≡ stateMade (ofPcg32 (pcg32.seeded seed pcg32.defaultStream))
+
+abbrev pub VrdPcg64WithSeedPromise : Wide → List ℕ → Type 0
+VrdPcg64WithSeedPromise seed s′ = s′ ≡ stateMade (ofPcg64 (pcg64.seeded (value seed) pcg64.defaultStream))
+
+abbrev pub VrdPcg32WithStreamPromise : ℕ → ℕ → List ℕ → Type 0
+VrdPcg32WithStreamPromise seed stream s′ = s′ ≡ stateMade (ofPcg32 (pcg32.seeded seed stream))
+
+abbrev pub VrdPcg64WithStreamPromise : Wide → Wide → List ℕ → Type 0
+VrdPcg64WithStreamPromise seed stream s′ = s′ ≡ stateMade (ofPcg64 (pcg64.seeded (value seed) (value stream)))
+
+-- ---- the state
+
+abbrev pub VrdSeedPromise : List ℕ → List ℕ → (seed : ℕ) → ℕ → List ℕ → List ℕ → Type 0
+VrdSeedPromise s t seed r s′ t′ = told r s′ t′ ≡ atBoundary s t refusal.kind (λ g. gives refusal.answered (seededTo g seed))
+
+abbrev pub VrdTwistPromise : List ℕ → List ℕ → ℕ → List ℕ → List ℕ → Type 0
+VrdTwistPromise s t r s′ t′ = told r s′ t′ ≡ atBoundary s t refusal.kind (λ g. gives refusal.answered (twisted g))
+
+-- whatever the table
+abbrev pub VrdSetMtiPromise : List ℕ → (value : ℕ) → ℕ → List ℕ → Type 0
+VrdSetMtiPromise s value r s′ = (t : List ℕ) → told r s′ t ≡ atBoundary s t refusal.kind (λ g. gives refusal.answered (storedAt g value))
+
+abbrev pub VrdMtiPromise : List ℕ → Word → Type 0
+VrdMtiPromise s r = r ≡ ofKnown s (word 0 refusal.kind) (word (positionOf (backendIn s) (positionIn s)) refusal.answered)
+
+abbrev pub VrdSplitPromise : List ℕ → List ℕ → ℕ → List ℕ → List ℕ → Type 0
+VrdSplitPromise s c r s′ c′ = halves r s′ c′ ≡ ofKnown s (halves refusal.kind s c) (divided s c (engineSplit (engineFrom s)))
+
+pub record VrdSamePromise (s t o u : List ℕ) (r : Equality) : Type 0 where
+  pub refusal : r .refusal ≡ sameRefusal s o
+  pub equal : Decides (r .equal) (Equal s t o u)

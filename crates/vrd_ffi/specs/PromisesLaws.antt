@@ -1,126 +1,157 @@
--- Each promise leaves one answer: two that both meet it are equal.
-use mathlib.Core.List.{List}
-use mathlib.Core.Path.{_≡_, sym, _∙_}
+-- Each promise leaves one answer, one state, one table, one list and one buffer: what meets it twice is equal.
 use Prim.Native.Nat.{ℕ}
 use lib.Ieee.{Float}
 use lib.IntN.{ℤ}
+use mathlib.Core.List.{List, []}
+use mathlib.Core.Path.{_≡_, sym, _∙_, ap, ap₂}
 use Rattle.wrapping.specs.declared.wide.Wide.{Wide}
 use Rattle.random.specs.declared.engine.Engine.{Engine}
-use Rattle.vrd_ffi.specs.Promises.{BoolPromise, BoundedPromise, CharPromise, ChoosePromise, DoublePromise, EnginePromise, FillBytesPromise, FloatPromise, I64Promise, IntPromise, MakePromise, MersenneTwisterWithSeedPromise, MtiPromise, PartsWithPromise, Pcg32WithSeedPromise, Pcg32WithStreamPromise, Pcg64WithSeedPromise, Pcg64WithStreamPromise, PseudoPromise, RandPromise, RandSlicePromise, RandomRangePromise, RangePromise, SamePromise, SeedPromise, SetMtiPromise, ShufflePromise, SplitPromise, TwistPromise, U64Promise, UintPromise, UniformPromise, XoshiroWithSeedPromise}
-use Rattle.vrd_ffi.specs.ReadBack.{begun-back, chosen-back, coin-back, divided-back, filled-back, integer-back, made-back, moved-back, number-back, number32-back, number64-back, ordered-back, placed-back, same-back, signed64-back, started-back, unlent-back, word32-back, word64-back}
-use Rattle.vrd_ffi.specs.declared.boundary.Parts.{Parts}
-use Rattle.vrd_ffi.specs.declared.draw_calls.Integer.{Integer}
-use Rattle.vrd_ffi.specs.declared.draw_calls.Number.{Number}
-use Rattle.vrd_ffi.specs.declared.float_calls.Coin.{Coin}
-use Rattle.vrd_ffi.specs.declared.float_calls.Number32.{Number32}
-use Rattle.vrd_ffi.specs.declared.float_calls.Number64.{Number64}
-use Rattle.vrd_ffi.specs.declared.list_calls.Chosen.{Chosen}
-use Rattle.vrd_ffi.specs.declared.list_calls.Ordered.{Ordered}
-use Rattle.vrd_ffi.specs.declared.list_calls.Started.{Started}
-use Rattle.vrd_ffi.specs.declared.making_calls.Made.{Made}
-use Rattle.vrd_ffi.specs.declared.state_calls.Divided.{Divided}
-use Rattle.vrd_ffi.specs.declared.state_calls.Equality.{Equality}
-use Rattle.vrd_ffi.specs.declared.state_calls.Moved.{Moved}
-use Rattle.vrd_ffi.specs.declared.state_calls.Position.{Position}
-use Rattle.vrd_ffi.specs.declared.word_calls.Signed64.{Signed64}
-use Rattle.vrd_ffi.specs.declared.word_calls.Word32.{Word32}
-use Rattle.vrd_ffi.specs.declared.word_calls.Word64.{Word64}
+use Rattle.parts.specs.Decides.{decides-once}
+use Rattle.vrd_ffi.specs.declared.answers.Choice.{Choice}
+use Rattle.vrd_ffi.specs.declared.answers.Coin.{Coin}
+use Rattle.vrd_ffi.specs.declared.answers.Equality.{Equality}
+use Rattle.vrd_ffi.specs.declared.answers.Integer.{Integer}
+use Rattle.vrd_ffi.specs.declared.answers.Number.{Number}
+use Rattle.vrd_ffi.specs.declared.answers.Number32.{Number32}
+use Rattle.vrd_ffi.specs.declared.answers.Number64.{Number64}
+use Rattle.vrd_ffi.specs.declared.answers.SignedWord.{SignedWord}
+use Rattle.vrd_ffi.specs.declared.answers.Word.{Word}
+use Rattle.vrd_ffi.specs.Answers.{Told, told}
+use Rattle.vrd_ffi.specs.AnswersLaws.{told-apart}
+use Rattle.vrd_ffi.specs.Handed.{Listed, listed, Halves, Equal}
+use Rattle.vrd_ffi.specs.Promises.{EngineInPromise, WritePromise}
+use Rattle.vrd_ffi.specs.Promises.{VrdRandPromise, VrdU64Promise, VrdI64Promise, VrdPseudoPromise}
+use Rattle.vrd_ffi.specs.Promises.{VrdBoundedPromise, VrdRandomRangePromise, VrdCharPromise, VrdUintPromise, VrdIntPromise, VrdRangePromise}
+use Rattle.vrd_ffi.specs.Promises.{VrdChoosePromise, VrdRandSlicePromise, VrdShufflePromise, VrdFillBytesPromise, VrdListLimitPromise}
+use Rattle.vrd_ffi.specs.Promises.{VrdFloatPromise, VrdDoublePromise, VrdBoolPromise, VrdUniformPromise}
+use Rattle.vrd_ffi.specs.Promises.{VrdMakePromise, VrdXoshiroWithSeedPromise, VrdMersenneTwisterWithSeedPromise, VrdPcg32WithSeedPromise}
+use Rattle.vrd_ffi.specs.Promises.{VrdPcg64WithSeedPromise, VrdPcg32WithStreamPromise, VrdPcg64WithStreamPromise}
+use Rattle.vrd_ffi.specs.Promises.{VrdSeedPromise, VrdTwistPromise, VrdSetMtiPromise, VrdMtiPromise, VrdSplitPromise, VrdSamePromise}
 
-pub one-engine : (p : Parts) {a b : Engine} → EnginePromise p a → EnginePromise p b → a ≡ b
-one-engine p h k = h ∙ sym k
+pub one-engine-in : (s : List ℕ) {a b : Engine} → EngineInPromise s a → EngineInPromise s b → a ≡ b
+one-engine-in s p q = p ∙ sym q
 
-pub one-parts-with : (e : Engine) (p : Parts) {a b : Parts} → PartsWithPromise e p a → PartsWithPromise e p b → a ≡ b
-one-parts-with e p h k = h ∙ sym k
+pub one-write : (e : Engine) (s : List ℕ) {s₁ s₂ : List ℕ} → WritePromise e s s₁ → WritePromise e s s₂ → s₁ ≡ s₂
+one-write e s p q = p ∙ sym q
 
-pub one-rand : (p : Parts) (mt : List ℕ) {a b : Word32} {mt₁ mt₂ : List ℕ} → RandPromise p mt a mt₁ → RandPromise p mt b mt₂ → (a ≡ b) × (mt₁ ≡ mt₂)
-one-rand p mt h k = word32-back (h ∙ sym k)
+-- ---- calls over a state and a table
 
-pub one-u64 : (p : Parts) (mt : List ℕ) {a b : Word64} {mt₁ mt₂ : List ℕ} → U64Promise p mt a mt₁ → U64Promise p mt b mt₂ → (a ≡ b) × (mt₁ ≡ mt₂)
-one-u64 p mt h k = word64-back (h ∙ sym k)
+module _ (s t : List ℕ) {s₁ s₂ t₁ t₂ : List ℕ} where
+  pub one-vrd-rand : {a b : Word} → VrdRandPromise s t a s₁ t₁ → VrdRandPromise s t b s₂ t₂ → (a ≡ b) × (s₁ ≡ s₂) × (t₁ ≡ t₂)
+  one-vrd-rand p q = told-apart (p ∙ sym q)
 
-pub one-i64 : (p : Parts) (mt : List ℕ) {a b : Signed64} {mt₁ mt₂ : List ℕ} → I64Promise p mt a mt₁ → I64Promise p mt b mt₂ → (a ≡ b) × (mt₁ ≡ mt₂)
-one-i64 p mt h k = signed64-back (h ∙ sym k)
+  pub one-vrd-u64 : {a b : Word} → VrdU64Promise s t a s₁ t₁ → VrdU64Promise s t b s₂ t₂ → (a ≡ b) × (s₁ ≡ s₂) × (t₁ ≡ t₂)
+  one-vrd-u64 p q = told-apart (p ∙ sym q)
 
-pub one-pseudo : (p : Parts) (mt : List ℕ) {a b : Word32} {mt₁ mt₂ : List ℕ} → PseudoPromise p mt a mt₁ → PseudoPromise p mt b mt₂ → (a ≡ b) × (mt₁ ≡ mt₂)
-one-pseudo p mt h k = word32-back (h ∙ sym k)
+  pub one-vrd-i64 : {a b : SignedWord} → VrdI64Promise s t a s₁ t₁ → VrdI64Promise s t b s₂ t₂ → (a ≡ b) × (s₁ ≡ s₂) × (t₁ ≡ t₂)
+  one-vrd-i64 p q = told-apart (p ∙ sym q)
 
-pub one-seed : (p : Parts) (mt : List ℕ) (seed : ℕ) {a b : Moved} {mt₁ mt₂ : List ℕ} → SeedPromise p mt seed a mt₁ → SeedPromise p mt seed b mt₂ → (a ≡ b) × (mt₁ ≡ mt₂)
-one-seed p mt seed h k = moved-back (h ∙ sym k)
+  pub one-vrd-pseudo : {a b : Word} → VrdPseudoPromise s t a s₁ t₁ → VrdPseudoPromise s t b s₂ t₂ → (a ≡ b) × (s₁ ≡ s₂) × (t₁ ≡ t₂)
+  one-vrd-pseudo p q = told-apart (p ∙ sym q)
 
-pub one-twist : (p : Parts) (mt : List ℕ) {a b : Moved} {mt₁ mt₂ : List ℕ} → TwistPromise p mt a mt₁ → TwistPromise p mt b mt₂ → (a ≡ b) × (mt₁ ≡ mt₂)
-one-twist p mt h k = moved-back (h ∙ sym k)
+  pub one-vrd-bounded : (r budget : ℕ) {a b : Number} → VrdBoundedPromise s t r budget a s₁ t₁ → VrdBoundedPromise s t r budget b s₂ t₂ → (a ≡ b) × (s₁ ≡ s₂) × (t₁ ≡ t₂)
+  one-vrd-bounded r budget p q = told-apart (p ∙ sym q)
 
-pub one-set-mti : (p : Parts) (value : ℕ) {a b : Moved} → SetMtiPromise p value a → SetMtiPromise p value b → a ≡ b
-one-set-mti p value h k = unlent-back (h ∙ sym k)
+  pub one-vrd-random-range : (min max budget : ℕ) {a b : Number} → VrdRandomRangePromise s t min max budget a s₁ t₁ → VrdRandomRangePromise s t min max budget b s₂ t₂ → (a ≡ b) × (s₁ ≡ s₂) × (t₁ ≡ t₂)
+  one-vrd-random-range min max budget p q = told-apart (p ∙ sym q)
 
-pub one-mti : (p : Parts) {a b : Position} → MtiPromise p a → MtiPromise p b → a ≡ b
-one-mti p h k = placed-back (h ∙ sym k)
+  pub one-vrd-char : (budget : ℕ) {a b : Number} → VrdCharPromise s t budget a s₁ t₁ → VrdCharPromise s t budget b s₂ t₂ → (a ≡ b) × (s₁ ≡ s₂) × (t₁ ≡ t₂)
+  one-vrd-char budget p q = told-apart (p ∙ sym q)
 
-pub one-split : (p : Parts) {a b : Divided} → SplitPromise p a → SplitPromise p b → a ≡ b
-one-split p h k = divided-back (h ∙ sym k)
+  pub one-vrd-uint : (min max budget : ℕ) {a b : Number} → VrdUintPromise s t min max budget a s₁ t₁ → VrdUintPromise s t min max budget b s₂ t₂ → (a ≡ b) × (s₁ ≡ s₂) × (t₁ ≡ t₂)
+  one-vrd-uint min max budget p q = told-apart (p ∙ sym q)
 
-pub one-same : (p : Parts) (mt : List ℕ) (q : Parts) (other : List ℕ) {a b : Equality} → SamePromise p mt q other a → SamePromise p mt q other b → a ≡ b
-one-same p mt q other h k = same-back p mt q other h k
+  pub one-vrd-int : (min max : ℤ) (budget : ℕ) {a b : Integer} → VrdIntPromise s t min max budget a s₁ t₁ → VrdIntPromise s t min max budget b s₂ t₂ → (a ≡ b) × (s₁ ≡ s₂) × (t₁ ≡ t₂)
+  one-vrd-int min max budget p q = told-apart (p ∙ sym q)
 
-pub one-make : (kind : ℕ) (seed mt : List ℕ) {a b : Made} {mt₁ mt₂ : List ℕ} → MakePromise kind seed mt a mt₁ → MakePromise kind seed mt b mt₂ → (a ≡ b) × (mt₁ ≡ mt₂)
-one-make kind seed mt p q = made-back (p ∙ sym q)
+  pub one-vrd-range : (min max : ℤ) (budget : ℕ) {a b : Integer} → VrdRangePromise s t min max budget a s₁ t₁ → VrdRangePromise s t min max budget b s₂ t₂ → (a ≡ b) × (s₁ ≡ s₂) × (t₁ ≡ t₂)
+  one-vrd-range min max budget p q = told-apart (p ∙ sym q)
 
-pub one-mersenne-twister-with-seed : (seed : ℕ) (mt : List ℕ) {a b : Parts} {mt₁ mt₂ : List ℕ} → MersenneTwisterWithSeedPromise seed mt a mt₁ → MersenneTwisterWithSeedPromise seed mt b mt₂ → (a ≡ b) × (mt₁ ≡ mt₂)
-one-mersenne-twister-with-seed seed mt p q = begun-back (p ∙ sym q)
+  pub one-vrd-choose : (list : List ℕ) (budget : ℕ) {a b : Choice} → VrdChoosePromise s t list budget a s₁ t₁ → VrdChoosePromise s t list budget b s₂ t₂ → (a ≡ b) × (s₁ ≡ s₂) × (t₁ ≡ t₂)
+  one-vrd-choose list budget p q = told-apart (p ∙ sym q)
 
-pub one-xoshiro-with-seed : (seed : ℕ) {a b : Parts} → XoshiroWithSeedPromise seed a → XoshiroWithSeedPromise seed b → a ≡ b
-one-xoshiro-with-seed seed p q = p ∙ sym q
+  pub one-vrd-rand-slice : (list : List ℕ) (window budget : ℕ) {a b : Number} → VrdRandSlicePromise s t list window budget a s₁ t₁ → VrdRandSlicePromise s t list window budget b s₂ t₂ → (a ≡ b) × (s₁ ≡ s₂) × (t₁ ≡ t₂)
+  one-vrd-rand-slice list window budget p q = told-apart (p ∙ sym q)
 
-pub one-pcg32-with-seed : (seed : ℕ) {a b : Parts} → Pcg32WithSeedPromise seed a → Pcg32WithSeedPromise seed b → a ≡ b
-one-pcg32-with-seed seed p q = p ∙ sym q
+  pub one-vrd-float : {a b : Number32} → VrdFloatPromise s t a s₁ t₁ → VrdFloatPromise s t b s₂ t₂ → (a ≡ b) × (s₁ ≡ s₂) × (t₁ ≡ t₂)
+  one-vrd-float p q = told-apart (p ∙ sym q)
 
-pub one-pcg64-with-seed : (seed : Wide) {a b : Parts} → Pcg64WithSeedPromise seed a → Pcg64WithSeedPromise seed b → a ≡ b
-one-pcg64-with-seed seed p q = p ∙ sym q
+  pub one-vrd-double : {a b : Number64} → VrdDoublePromise s t a s₁ t₁ → VrdDoublePromise s t b s₂ t₂ → (a ≡ b) × (s₁ ≡ s₂) × (t₁ ≡ t₂)
+  one-vrd-double p q = told-apart (p ∙ sym q)
 
-pub one-pcg32-with-stream : (seed stream : ℕ) {a b : Parts} → Pcg32WithStreamPromise seed stream a → Pcg32WithStreamPromise seed stream b → a ≡ b
-one-pcg32-with-stream seed stream p q = p ∙ sym q
+  pub one-vrd-bool : (chance : Float) {a b : Coin} → VrdBoolPromise s t chance a s₁ t₁ → VrdBoolPromise s t chance b s₂ t₂ → (a ≡ b) × (s₁ ≡ s₂) × (t₁ ≡ t₂)
+  one-vrd-bool chance p q = told-apart (p ∙ sym q)
 
-pub one-pcg64-with-stream : (seed stream : Wide) {a b : Parts} → Pcg64WithStreamPromise seed stream a → Pcg64WithStreamPromise seed stream b → a ≡ b
-one-pcg64-with-stream seed stream p q = p ∙ sym q
+  pub one-vrd-uniform : (low high : Float) {a b : Number64} → VrdUniformPromise s t low high a s₁ t₁ → VrdUniformPromise s t low high b s₂ t₂ → (a ≡ b) × (s₁ ≡ s₂) × (t₁ ≡ t₂)
+  one-vrd-uniform low high p q = told-apart (p ∙ sym q)
 
-pub one-float : (p : Parts) (mt : List ℕ) {a b : Number32} {mt₁ mt₂ : List ℕ} → FloatPromise p mt a mt₁ → FloatPromise p mt b mt₂ → (a ≡ b) × (mt₁ ≡ mt₂)
-one-float p mt h k = number32-back (h ∙ sym k)
+  pub one-vrd-make : (kind : ℕ) (seed : List ℕ) {a b : ℕ} → VrdMakePromise s t kind seed a s₁ t₁ → VrdMakePromise s t kind seed b s₂ t₂ → (a ≡ b) × (s₁ ≡ s₂) × (t₁ ≡ t₂)
+  one-vrd-make kind seed p q = told-apart (p ∙ sym q)
 
-pub one-double : (p : Parts) (mt : List ℕ) {a b : Number64} {mt₁ mt₂ : List ℕ} → DoublePromise p mt a mt₁ → DoublePromise p mt b mt₂ → (a ≡ b) × (mt₁ ≡ mt₂)
-one-double p mt h k = number64-back (h ∙ sym k)
+  pub one-vrd-seed : (seed : ℕ) {a b : ℕ} → VrdSeedPromise s t seed a s₁ t₁ → VrdSeedPromise s t seed b s₂ t₂ → (a ≡ b) × (s₁ ≡ s₂) × (t₁ ≡ t₂)
+  one-vrd-seed seed p q = told-apart (p ∙ sym q)
 
-pub one-bool : (p : Parts) (mt : List ℕ) (chance : Float) {a b : Coin} {mt₁ mt₂ : List ℕ} → BoolPromise p mt chance a mt₁ → BoolPromise p mt chance b mt₂ → (a ≡ b) × (mt₁ ≡ mt₂)
-one-bool p mt chance h k = coin-back (h ∙ sym k)
+  pub one-vrd-twist : {a b : ℕ} → VrdTwistPromise s t a s₁ t₁ → VrdTwistPromise s t b s₂ t₂ → (a ≡ b) × (s₁ ≡ s₂) × (t₁ ≡ t₂)
+  one-vrd-twist p q = told-apart (p ∙ sym q)
 
-pub one-uniform : (p : Parts) (mt : List ℕ) (low high : Float) {a b : Number64} {mt₁ mt₂ : List ℕ} → UniformPromise p mt low high a mt₁ → UniformPromise p mt low high b mt₂ → (a ≡ b) × (mt₁ ≡ mt₂)
-one-uniform p mt low high h k = number64-back (h ∙ sym k)
+  -- the list or the buffer too
+  listed-apart : {A : Type 0} {a b : A} {l m : List ℕ} → told (listed a l) s₁ t₁ ≡ told (listed b m) s₂ t₂
+      → (a ≡ b) × (l ≡ m) × (s₁ ≡ s₂) × (t₁ ≡ t₂)
+  listed-apart {A} h = (
+    ap (λ (x : Told (Listed A)). x .answer .answer) h,
+    ap (λ (x : Told (Listed A)). x .answer .list) h,
+    ap (λ (x : Told (Listed A)). x .state) h,
+    ap (λ (x : Told (Listed A)). x .table) h,
+  )
 
-pub one-bounded : (p : Parts) (mt : List ℕ) (r budget : ℕ) {a b : Number} {mt₁ mt₂ : List ℕ} → BoundedPromise p mt r budget a mt₁ → BoundedPromise p mt r budget b mt₂ → (a ≡ b) × (mt₁ ≡ mt₂)
-one-bounded p mt r budget h k = number-back (h ∙ sym k)
+  pub one-vrd-shuffle : (list : List ℕ) (budget : ℕ) {a b : Number} {l m : List ℕ}
+      → VrdShufflePromise s t list budget a s₁ t₁ l → VrdShufflePromise s t list budget b s₂ t₂ m → (a ≡ b) × (l ≡ m) × (s₁ ≡ s₂) × (t₁ ≡ t₂)
+  one-vrd-shuffle list budget p q = listed-apart (p ∙ sym q)
 
-pub one-random-range : (p : Parts) (mt : List ℕ) (min max budget : ℕ) {a b : Number} {mt₁ mt₂ : List ℕ} → RandomRangePromise p mt min max budget a mt₁ → RandomRangePromise p mt min max budget b mt₂ → (a ≡ b) × (mt₁ ≡ mt₂)
-one-random-range p mt min max budget h k = number-back (h ∙ sym k)
+  pub one-vrd-fill-bytes : (dest : List ℕ) {a b : ℕ} {l m : List ℕ}
+      → VrdFillBytesPromise s t dest a s₁ t₁ l → VrdFillBytesPromise s t dest b s₂ t₂ m → (a ≡ b) × (l ≡ m) × (s₁ ≡ s₂) × (t₁ ≡ t₂)
+  one-vrd-fill-bytes dest p q = listed-apart (p ∙ sym q)
 
-pub one-char : (p : Parts) (mt : List ℕ) (budget : ℕ) {a b : Number} {mt₁ mt₂ : List ℕ} → CharPromise p mt budget a mt₁ → CharPromise p mt budget b mt₂ → (a ≡ b) × (mt₁ ≡ mt₂)
-one-char p mt budget h k = number-back (h ∙ sym k)
+pub one-vrd-list-limit : {a b : ℕ} → VrdListLimitPromise a → VrdListLimitPromise b → a ≡ b
+one-vrd-list-limit p q = p ∙ sym q
 
-pub one-uint : (p : Parts) (mt : List ℕ) (min max budget : ℕ) {a b : Number} {mt₁ mt₂ : List ℕ} → UintPromise p mt min max budget a mt₁ → UintPromise p mt min max budget b mt₂ → (a ≡ b) × (mt₁ ≡ mt₂)
-one-uint p mt min max budget h k = number-back (h ∙ sym k)
+-- ---- makers
 
-pub one-int : (p : Parts) (mt : List ℕ) (min max : ℤ) (budget : ℕ) {a b : Integer} {mt₁ mt₂ : List ℕ} → IntPromise p mt min max budget a mt₁ → IntPromise p mt min max budget b mt₂ → (a ≡ b) × (mt₁ ≡ mt₂)
-one-int p mt min max budget h k = integer-back (h ∙ sym k)
+module _ {s₁ s₂ : List ℕ} where
+  pub one-vrd-xoshiro-with-seed : (seed : ℕ) → VrdXoshiroWithSeedPromise seed s₁ → VrdXoshiroWithSeedPromise seed s₂ → s₁ ≡ s₂
+  one-vrd-xoshiro-with-seed seed p q = p ∙ sym q
 
-pub one-range : (p : Parts) (mt : List ℕ) (min max : ℤ) (budget : ℕ) {a b : Integer} {mt₁ mt₂ : List ℕ} → RangePromise p mt min max budget a mt₁ → RangePromise p mt min max budget b mt₂ → (a ≡ b) × (mt₁ ≡ mt₂)
-one-range p mt min max budget h k = integer-back (h ∙ sym k)
+  pub one-vrd-mersenne-twister-with-seed : (seed : ℕ) {t₁ t₂ : List ℕ}
+      → VrdMersenneTwisterWithSeedPromise seed s₁ t₁ → VrdMersenneTwisterWithSeedPromise seed s₂ t₂ → (s₁ ≡ s₂) × (t₁ ≡ t₂)
+  one-vrd-mersenne-twister-with-seed seed p q = let e = told-apart (p ∙ sym q) in (e .1, e .2)
 
-pub one-choose : (p : Parts) (mt list : List ℕ) (budget : ℕ) {a b : Chosen} {mt₁ mt₂ : List ℕ} → ChoosePromise p mt list budget a mt₁ → ChoosePromise p mt list budget b mt₂ → (a ≡ b) × (mt₁ ≡ mt₂)
-one-choose p mt list budget h k = chosen-back (h ∙ sym k)
+  pub one-vrd-pcg32-with-seed : (seed : ℕ) → VrdPcg32WithSeedPromise seed s₁ → VrdPcg32WithSeedPromise seed s₂ → s₁ ≡ s₂
+  one-vrd-pcg32-with-seed seed p q = p ∙ sym q
 
-pub one-rand-slice : (p : Parts) (mt list : List ℕ) (window budget : ℕ) {a b : Started} {mt₁ mt₂ : List ℕ} → RandSlicePromise p mt list window budget a mt₁ → RandSlicePromise p mt list window budget b mt₂ → (a ≡ b) × (mt₁ ≡ mt₂)
-one-rand-slice p mt list window budget h k = started-back (h ∙ sym k)
+  pub one-vrd-pcg64-with-seed : (seed : Wide) → VrdPcg64WithSeedPromise seed s₁ → VrdPcg64WithSeedPromise seed s₂ → s₁ ≡ s₂
+  one-vrd-pcg64-with-seed seed p q = p ∙ sym q
 
-pub one-shuffle : (p : Parts) (mt list : List ℕ) (budget : ℕ) {a b : Ordered} {mt₁ mt₂ : List ℕ} {list₁ list₂ : List ℕ} → ShufflePromise p mt list budget a mt₁ list₁ → ShufflePromise p mt list budget b mt₂ list₂ → (a ≡ b) × (mt₁ ≡ mt₂) × (list₁ ≡ list₂)
-one-shuffle p mt list budget h k = ordered-back (h ∙ sym k)
+  pub one-vrd-pcg32-with-stream : (seed stream : ℕ) → VrdPcg32WithStreamPromise seed stream s₁ → VrdPcg32WithStreamPromise seed stream s₂ → s₁ ≡ s₂
+  one-vrd-pcg32-with-stream seed stream p q = p ∙ sym q
 
-pub one-fill-bytes : (p : Parts) (mt dest : List ℕ) {a b : Moved} {mt₁ mt₂ : List ℕ} {dest₁ dest₂ : List ℕ} → FillBytesPromise p mt dest a mt₁ dest₁ → FillBytesPromise p mt dest b mt₂ dest₂ → (a ≡ b) × (mt₁ ≡ mt₂) × (dest₁ ≡ dest₂)
-one-fill-bytes p mt dest h k = filled-back (h ∙ sym k)
+  pub one-vrd-pcg64-with-stream : (seed stream : Wide) → VrdPcg64WithStreamPromise seed stream s₁ → VrdPcg64WithStreamPromise seed stream s₂ → s₁ ≡ s₂
+  one-vrd-pcg64-with-stream seed stream p q = p ∙ sym q
+
+-- ---- calls without a table
+
+pub one-vrd-set-mti : (s : List ℕ) (value : ℕ) {a b : ℕ} {s₁ s₂ : List ℕ} → VrdSetMtiPromise s value a s₁ → VrdSetMtiPromise s value b s₂
+    → (a ≡ b) × (s₁ ≡ s₂)
+one-vrd-set-mti s value p q = let e = told-apart (p [] ∙ sym (q [])) in (e .0, e .1)
+
+pub one-vrd-mti : (s : List ℕ) {a b : Word} → VrdMtiPromise s a → VrdMtiPromise s b → a ≡ b
+one-vrd-mti s p q = p ∙ sym q
+
+pub one-vrd-split : (s c : List ℕ) {a b : ℕ} {s₁ s₂ c₁ c₂ : List ℕ} → VrdSplitPromise s c a s₁ c₁ → VrdSplitPromise s c b s₂ c₂
+    → (a ≡ b) × (s₁ ≡ s₂) × (c₁ ≡ c₂)
+one-vrd-split s c p q =
+    let e = p ∙ sym q in (ap (λ (x : Halves). x .refusal) e, ap (λ (x : Halves). x .parent) e, ap (λ (x : Halves). x .child) e)
+
+pub one-vrd-same : (s t o u : List ℕ) {a b : Equality} → VrdSamePromise s t o u a → VrdSamePromise s t o u b → a ≡ b
+one-vrd-same s t o u {a} {b} p q =
+    ap₂ (λ (n : ℕ) (e : _). record { refusal = n; equal = e }) (p .refusal ∙ sym (q .refusal))
+    (decides-once (a .equal) (b .equal) (Equal s t o u) (p .equal) (q .equal))

@@ -1,127 +1,124 @@
 // Floats: from 0 up to 1, a chance, and a number of an interval.
-ghost use Rattle.vrd_ffi.specs.Promises.{FloatPromise, DoublePromise, BoolPromise, UniformPromise};
-use crate::boundary::Parts;
-use crate::boundary::engine;
-use crate::boundary::parts_with;
+ghost use mathlib.Core.Path.{_≡_};
+ghost use Rattle.vrd_ffi.specs.Moves.{stepsIn};
+ghost use Rattle.vrd_ffi.specs.Promises.{VrdFloatPromise, VrdDoublePromise, VrdBoolPromise, VrdUniformPromise};
+use crate::answers::Coin;
+use crate::answers::Number32;
+use crate::answers::Number64;
+use crate::moves::move_u32;
+use crate::moves::move_u64;
 use floats::Interval;
-use floats::Uniform;
 use words::refusal;
 
-// A number, and the generator after it.
-#[repr(C)]
-pub struct Number32 {
-    pub refusal: u32,
-    pub value: f32,
-    pub next: Parts,
-}
-
-#[repr(C)]
-pub struct Number64 {
-    pub refusal: u32,
-    pub value: f64,
-    pub next: Parts,
-}
-
-// A bool, the words used, and the generator after them.
-#[repr(C)]
-pub struct Coin {
-    pub refusal: u32,
-    pub used: u32,
-    pub value: bool,
-    pub next: Parts,
-}
-
+// (word >> 8) / 2^24 of the next word.
 #[no_mangle]
-pub extern "C" fn vrd_float(p: Parts, mt: &mut [u32; 624]) -> Number32
-    ensures { λ r. ⌜ FloatPromise p (now (mt .entry)) r (now (mt .exit)) ⌝ }
+pub extern "C" fn vrd_float_in(state: &mut [u64; 6], table: &mut [u32; 624]) -> Number32
+    ensures { λ r. ⌜ VrdFloatPromise (now (state .entry)) (now (table .entry)) r (now (state .exit)) (now (table .exit)) ⌝ }
 {
-    if p.kind > 3 {
+    if state[0] > 3 {
         return Number32 {
-            refusal: refusal::KIND,
             value: 0.0,
-            next: p,
+            refusal: refusal::KIND,
         };
     }
-    let d = float_draws::float_in(engine(p), mt);
-    let e = d.next;
-    let next = parts_with(e, p);
+    let word = move_u32(state, table);
+    let value = floats::float_of(word);
     Number32 {
+        value,
         refusal: refusal::ANSWERED,
-        value: d.value,
-        next,
     }
 }
 
+// (word >> 11) / 2^53 of the next word of 64 bits.
 #[no_mangle]
-pub extern "C" fn vrd_double(p: Parts, mt: &mut [u32; 624]) -> Number64
-    ensures { λ r. ⌜ DoublePromise p (now (mt .entry)) r (now (mt .exit)) ⌝ }
+pub extern "C" fn vrd_double_in(state: &mut [u64; 6], table: &mut [u32; 624]) -> Number64
+    ensures { λ r. ⌜ VrdDoublePromise (now (state .entry)) (now (table .entry)) r (now (state .exit)) (now (table .exit)) ⌝ }
 {
-    if p.kind > 3 {
+    if state[0] > 3 {
         return Number64 {
-            refusal: refusal::KIND,
             value: 0.0,
-            next: p,
+            refusal: refusal::KIND,
         };
     }
-    let d = float_draws::double_in(engine(p), mt);
-    let e = d.next;
-    let next = parts_with(e, p);
+    let word = move_u64(state, table);
+    let value = floats::double_of(word);
     Number64 {
+        value,
         refusal: refusal::ANSWERED,
-        value: d.value,
-        next,
     }
 }
 
-#[no_mangle]
-pub extern "C" fn vrd_bool(p: Parts, mt: &mut [u32; 624], chance: f64) -> Coin
-    ensures { λ r. ⌜ BoolPromise p (now (mt .entry)) chance r (now (mt .exit)) ⌝ }
+// How many words a word of 64 bits takes.
+fn steps_in(state: &[u64; 6]) -> u32
+    ensures { λ r. ⌜ r ≡ stepsIn (now (state .entry)) ⌝ }
 {
-    if p.kind > 3 {
+    let kind = state[0];
+    if kind == 1 {
+        return 2;
+    }
+    if kind == 2 {
+        return 2;
+    }
+    1
+}
+
+// A coin that falls true with this chance.
+#[no_mangle]
+pub extern "C" fn vrd_bool_in(state: &mut [u64; 6], table: &mut [u32; 624], chance: f64) -> Coin
+    ensures { λ r. ⌜ VrdBoolPromise (now (state .entry)) (now (table .entry)) chance r (now (state .exit)) (now (table .exit)) ⌝ }
+{
+    if state[0] > 3 {
         return Coin {
-            refusal: refusal::KIND,
             used: 0,
+            refusal: refusal::KIND,
             value: false,
-            next: p,
         };
     }
-    let d = float_draws::bool_in(engine(p), mt, chance);
-    let e = d.next;
-    let next = parts_with(e, p);
+    if floats::is_chance(chance) {
+        let used = steps_in(state);
+        let word = move_u64(state, table);
+        let coin = floats::chance(chance, word);
+        return Coin {
+            used,
+            refusal: refusal::ANSWERED,
+            value: coin.value,
+        };
+    }
     Coin {
-        refusal: d.refusal,
-        used: d.used,
-        value: d.value,
-        next,
+        used: 0,
+        refusal: refusal::CHANCE,
+        value: false,
     }
 }
 
-// A number or a refusal, as one struct: refused, the number is 0.
+// A number of the interval from low to high.
 #[no_mangle]
-pub extern "C" fn vrd_uniform(p: Parts, mt: &mut [u32; 624], low: f64, high: f64) -> Number64
-    ensures { λ r. ⌜ UniformPromise p (now (mt .entry)) low high r (now (mt .exit)) ⌝ }
+pub extern "C" fn vrd_uniform_in(
+    state: &mut [u64; 6],
+    table: &mut [u32; 624],
+    low: f64,
+    high: f64,
+) -> Number64
+    ensures { λ r. ⌜ VrdUniformPromise (now (state .entry)) (now (table .entry)) low high r (now (state .exit)) (now (table .exit)) ⌝ }
 {
-    if p.kind > 3 {
+    if state[0] > 3 {
         return Number64 {
-            refusal: refusal::KIND,
             value: 0.0,
-            next: p,
+            refusal: refusal::KIND,
         };
     }
-    let d = float_draws::uniform_in(engine(p), mt, Interval { low, high });
-    let e = d.next;
-    let next = parts_with(e, p);
-    let answer = d.answer;
-    match answer {
-        Uniform::Number(value) => Number64 {
-            refusal: refusal::ANSWERED,
-            value,
-            next,
-        },
-        Uniform::Refused(number) => Number64 {
-            refusal: number,
+    let i = Interval { low, high };
+    let refused = floats::interval_refusal(i);
+    if refused != refusal::ANSWERED {
+        return Number64 {
             value: 0.0,
-            next,
-        },
+            refusal: refused,
+        };
+    }
+    let word = move_u64(state, table);
+    let value = floats::number_in(i, word);
+    Number64 {
+        value,
+        refusal: refusal::ANSWERED,
     }
 }

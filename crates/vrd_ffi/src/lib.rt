@@ -1,22 +1,21 @@
-// The facade generator for Rust and C: each call over a lent table, with the generator's small words by value; each call by value
-// (`.._by_value`), with a generator that holds its table; and the smallest calls in place (`.._in_place`), with the small words lent too. Kinds
-// and refusals are numbers. A kind above 3 is refused with 10 before anything else is looked at, and everything stays as it came.
-mod boundary;
+// The facade generator for Rust and C, in one form: its state (kind, position, small words) and its table are lent, and changed there. Kinds and
+// refusals are numbers. A kind above 3 is refused with 10 before anything else is looked at; where a call is refused nothing changes.
+mod answers;
+mod buffer_calls;
 mod draw_calls;
+mod drawing;
+mod first_word;
 mod float_calls;
-mod held_draws;
-mod held_floats;
-mod held_lists;
-mod held_making;
-mod held_state;
-mod held_words;
-mod in_place;
-mod list_calls;
+mod int_calls;
 mod making_calls;
 mod moves;
+mod place_calls;
+mod state;
 mod state_calls;
+mod uint_calls;
 mod word_calls;
+mod writing;
 
-pub use boundary::Parts;
-pub use boundary::engine;
-pub use boundary::parts_with;
+pub use answers::Word;
+pub use state::engine_in;
+pub use writing::write;

@@ -1,101 +1,95 @@
-// Making a generator: of a kind number and a byte seed, which is refused with 10 and then 11, and by each kind's own call, which refuses
-// nothing. Parts set by hand need no call. What a kind does not use is zeros.
-ghost use mathlib.Core.Path.{_≡_};
-ghost use Rattle.vrd_ffi.specs.MakingCalls.{partsOf, madeOf};
-ghost use Rattle.vrd_ffi.specs.Promises.{MakePromise, MersenneTwisterWithSeedPromise, XoshiroWithSeedPromise, Pcg32WithSeedPromise, Pcg64WithSeedPromise, Pcg32WithStreamPromise, Pcg64WithStreamPromise};
-use crate::boundary::Parts;
-use crate::boundary::parts_with;
-use crate::boundary::zero_parts;
-use random::Backend;
-use random::Random;
+// Making a generator in the caller's state and table. What its kind does not use is zeros in the state; the table is the twister's alone, and every
+// other making leaves it as it came.
+ghost use Rattle.vrd_ffi.specs.Promises.{VrdMakePromise, VrdXoshiroWithSeedPromise, VrdMersenneTwisterWithSeedPromise};
+ghost use Rattle.vrd_ffi.specs.Promises.{VrdPcg32WithSeedPromise, VrdPcg64WithSeedPromise};
+ghost use Rattle.vrd_ffi.specs.Promises.{VrdPcg32WithStreamPromise, VrdPcg64WithStreamPromise};
+use crate::writing::begin;
 use random::engine_of;
-use random::engine_with;
 use words::refusal;
 use wrapping::Wide;
 
-// The generator made; refused, it is kind 0 with four zero words.
-#[repr(C)]
-pub struct Made {
-    pub refusal: u32,
-    pub generator: Parts,
-}
-
-// A generator without its table.
-pub(crate) fn parts_of(g: Random) -> Parts
-    ensures { λ r. ⌜ r ≡ partsOf g ⌝ }
-{
-    parts_with(engine_of(g), zero_parts())
-}
-
-// What the library made, without its table.
-fn made_of(m: making::Made) -> Made
-    ensures { λ r. ⌜ r ≡ madeOf m ⌝ }
-{
-    let g = m.generator;
-    let generator = parts_of(g);
-    Made {
-        refusal: m.refusal,
-        generator,
-    }
-}
-
-// Kind 1 has its table in the caller's; every other making leaves that as it came.
+// Of bytes. The answer is the refusal: 10 for a kind above 3, then 11. A refused making changes nothing.
 #[no_mangle]
-pub extern "C" fn vrd_make(kind: u32, seed: &[u8], mt: &mut [u32; 624]) -> Made
-    ensures { λ r. ⌜ MakePromise kind (now (seed .entry)) (now (mt .entry)) r (now (mt .exit)) ⌝ }
+pub extern "C" fn vrd_make_in(
+    state: &mut [u64; 6],
+    table: &mut [u32; 624],
+    kind: u32,
+    seed: &[u8],
+) -> u32
+    ensures { λ r. ⌜ VrdMakePromise (now (state .entry)) (now (table .entry)) kind (now (seed .entry)) r (now (state .exit)) (now (table .exit)) ⌝ }
 {
     let m = making::make(kind, seed);
-    let answer = made_of(m);
     if m.refusal != refusal::ANSWERED {
-        return answer;
+        return m.refusal;
     }
-    if kind != 1 {
-        return answer;
+    let g = m.generator;
+    begin(engine_of(g), state);
+    let backend = g.backend;
+    if random::on_table(backend) {
+        let mt = g.twister.mt;
+        *table = mt;
+        return refusal::ANSWERED;
     }
-    mersenne_twister::seed_in(mt, mersenne_twister::fold_seed(seed));
-    answer
+    refusal::ANSWERED
 }
 
+// Of a seed number, kind 0.
 #[no_mangle]
-pub extern "C" fn vrd_mersenne_twister_with_seed(seed: u32, mt: &mut [u32; 624]) -> Parts
-    ensures { λ r. ⌜ MersenneTwisterWithSeedPromise seed (now (mt .entry)) r (now (mt .exit)) ⌝ }
+pub extern "C" fn vrd_xoshiro_with_seed_in(state: &mut [u64; 6], seed: u64)
+    ensures { λ _. ⌜ VrdXoshiroWithSeedPromise seed (now (state .exit)) ⌝ }
 {
-    let at = mersenne_twister::seed_in(mt, seed);
-    let e = engine_with(Backend::MersenneTwister, at);
-    parts_with(e, zero_parts())
+    begin(engine_of(making::from_u64_seed(seed)), state);
 }
 
+// Kind 1, with its table.
 #[no_mangle]
-pub extern "C" fn vrd_xoshiro_with_seed(seed: u64) -> Parts
-    ensures { λ r. ⌜ XoshiroWithSeedPromise seed r ⌝ }
+pub extern "C" fn vrd_mersenne_twister_with_seed_in(
+    state: &mut [u64; 6],
+    table: &mut [u32; 624],
+    seed: u32,
+)
+    ensures { λ _. ⌜ VrdMersenneTwisterWithSeedPromise seed (now (state .exit)) (now (table .exit)) ⌝ }
 {
-    parts_of(making::from_u64_seed(seed))
+    let g = making::new_mersenne_twister_with_seed(seed);
+    begin(engine_of(g), state);
+    let mt = g.twister.mt;
+    *table = mt;
 }
 
+// Kind 2.
 #[no_mangle]
-pub extern "C" fn vrd_pcg32_with_seed(seed: u64) -> Parts
-    ensures { λ r. ⌜ Pcg32WithSeedPromise seed r ⌝ }
+pub extern "C" fn vrd_pcg32_with_seed_in(state: &mut [u64; 6], seed: u64)
+    ensures { λ _. ⌜ VrdPcg32WithSeedPromise seed (now (state .exit)) ⌝ }
 {
-    parts_of(making::new_pcg32_with_seed(seed))
+    begin(engine_of(making::new_pcg32_with_seed(seed)), state);
 }
 
+// Kind 3.
 #[no_mangle]
-pub extern "C" fn vrd_pcg64_with_seed(seed: Wide) -> Parts
-    ensures { λ r. ⌜ Pcg64WithSeedPromise seed r ⌝ }
+pub extern "C" fn vrd_pcg64_with_seed_in(state: &mut [u64; 6], seed: Wide)
+    ensures { λ _. ⌜ VrdPcg64WithSeedPromise seed (now (state .exit)) ⌝ }
 {
-    parts_of(making::new_pcg64_with_seed(seed))
+    begin(engine_of(making::new_pcg64_with_seed(seed)), state);
 }
 
+// Of a seed and a stream, kind 2.
 #[no_mangle]
-pub extern "C" fn vrd_pcg32_with_stream(seed: u64, stream: u64) -> Parts
-    ensures { λ r. ⌜ Pcg32WithStreamPromise seed stream r ⌝ }
+pub extern "C" fn vrd_pcg32_with_stream_in(state: &mut [u64; 6], seed: u64, stream: u64)
+    ensures { λ _. ⌜ VrdPcg32WithStreamPromise seed stream (now (state .exit)) ⌝ }
 {
-    parts_of(making::new_pcg32_with_stream(seed, stream))
+    begin(
+        engine_of(making::new_pcg32_with_stream(seed, stream)),
+        state,
+    );
 }
 
+// Kind 3.
 #[no_mangle]
-pub extern "C" fn vrd_pcg64_with_stream(seed: Wide, stream: Wide) -> Parts
-    ensures { λ r. ⌜ Pcg64WithStreamPromise seed stream r ⌝ }
+pub extern "C" fn vrd_pcg64_with_stream_in(state: &mut [u64; 6], seed: Wide, stream: Wide)
+    ensures { λ _. ⌜ VrdPcg64WithStreamPromise seed stream (now (state .exit)) ⌝ }
 {
-    parts_of(making::new_pcg64_with_stream(seed, stream))
+    begin(
+        engine_of(making::new_pcg64_with_stream(seed, stream)),
+        state,
+    );
 }

@@ -1,152 +1,111 @@
 // The generator's state: seeded anew, split, the twister's position and twist, and equality of two generators.
-ghost use Rattle.vrd_ffi.specs.Promises.{SeedPromise, TwistPromise, SetMtiPromise, MtiPromise, SplitPromise, SamePromise};
-use crate::boundary::Parts;
-use crate::boundary::engine;
-use crate::boundary::parts_with;
-use crate::boundary::zero_parts;
+ghost use Rattle.vrd_ffi.specs.Promises.{VrdSeedPromise, VrdTwistPromise, VrdSetMtiPromise, VrdMtiPromise, VrdSplitPromise, VrdSamePromise};
+use crate::answers::Equality;
+use crate::answers::Word;
+use crate::state::engine_in;
+use crate::writing::begin;
+use crate::writing::write;
 use words::refusal;
 
-// The generator after the call.
-#[repr(C)]
-pub struct Moved {
-    pub refusal: u32,
-    pub next: Parts,
-}
-
-// The two generators of one; refused, the parent is as it came and the child is kind 0 with four zero words.
-#[repr(C)]
-pub struct Divided {
-    pub refusal: u32,
-    pub parent: Parts,
-    pub child: Parts,
-}
-
-// A position.
-#[repr(C)]
-pub struct Position {
-    pub refusal: u32,
-    pub mti: u32,
-}
-
-// Whether two generators are equal; refused, they are not.
-#[repr(C)]
-pub struct Equality {
-    pub refusal: u32,
-    pub equal: bool,
-}
-
+// The kind is kept, and its state set anew. The answer is the refusal.
 #[no_mangle]
-pub extern "C" fn vrd_seed(p: Parts, mt: &mut [u32; 624], seed: u32) -> Moved
-    ensures { λ r. ⌜ SeedPromise p (now (mt .entry)) seed r (now (mt .exit)) ⌝ }
+pub extern "C" fn vrd_seed_in(state: &mut [u64; 6], table: &mut [u32; 624], seed: u32) -> u32
+    ensures { λ r. ⌜ VrdSeedPromise (now (state .entry)) (now (table .entry)) seed r (now (state .exit)) (now (table .exit)) ⌝ }
 {
-    if p.kind > 3 {
-        return Moved {
+    if state[0] > 3 {
+        return refusal::KIND;
+    }
+    let e = making::seed_in(engine_in(state), table, seed);
+    write(e, state);
+    refusal::ANSWERED
+}
+
+// The twist; nothing for the other kinds. The answer is the refusal.
+#[no_mangle]
+pub extern "C" fn vrd_twist_in(state: &mut [u64; 6], table: &mut [u32; 624]) -> u32
+    ensures { λ r. ⌜ VrdTwistPromise (now (state .entry)) (now (table .entry)) r (now (state .exit)) (now (table .exit)) ⌝ }
+{
+    if state[0] > 3 {
+        return refusal::KIND;
+    }
+    let e = parts::twist_in(engine_in(state), table);
+    write(e, state);
+    refusal::ANSWERED
+}
+
+// The twister's position set; nothing for the other kinds. The answer is the refusal.
+#[no_mangle]
+pub extern "C" fn vrd_set_mti_in(state: &mut [u64; 6], value: u32) -> u32
+    ensures { λ r. ⌜ VrdSetMtiPromise (now (state .entry)) value r (now (state .exit)) ⌝ }
+{
+    if state[0] > 3 {
+        return refusal::KIND;
+    }
+    let e = parts::set_mti_in(engine_in(state), value);
+    write(e, state);
+    refusal::ANSWERED
+}
+
+// The twister's position; 0 for the other kinds.
+#[no_mangle]
+pub extern "C" fn vrd_mti_in(state: &[u64; 6]) -> Word
+    ensures { λ r. ⌜ VrdMtiPromise (now (state .entry)) r ⌝ }
+{
+    if state[0] > 3 {
+        return Word {
+            value: 0,
             refusal: refusal::KIND,
-            next: p,
         };
     }
-    let e = making::seed_in(engine(p), mt, seed);
-    let next = parts_with(e, p);
-    Moved {
+    let mti = parts::mti_in(engine_in(state));
+    Word {
+        value: mti as u64,
         refusal: refusal::ANSWERED,
-        next,
     }
 }
 
+// Two generators of one of kind 0. The answer is the refusal: 10, then 9. Answered, the child is written to a state of its own.
 #[no_mangle]
-pub extern "C" fn vrd_twist(p: Parts, mt: &mut [u32; 624]) -> Moved
-    ensures { λ r. ⌜ TwistPromise p (now (mt .entry)) r (now (mt .exit)) ⌝ }
+pub extern "C" fn vrd_split_in(state: &mut [u64; 6], child: &mut [u64; 6]) -> u32
+    ensures { λ r. ⌜ VrdSplitPromise (now (state .entry)) (now (child .entry)) r (now (state .exit)) (now (child .exit)) ⌝ }
 {
-    if p.kind > 3 {
-        return Moved {
-            refusal: refusal::KIND,
-            next: p,
-        };
+    if state[0] > 3 {
+        return refusal::KIND;
     }
-    let e = parts::twist_in(engine(p), mt);
-    let next = parts_with(e, p);
-    Moved {
-        refusal: refusal::ANSWERED,
-        next,
+    let d = parts::split_in(engine_in(state));
+    if d.refusal != refusal::ANSWERED {
+        return d.refusal;
     }
+    let first = d.parent;
+    let second = d.child;
+    write(first, state);
+    begin(second, child);
+    refusal::ANSWERED
 }
 
+// Whether two generators are equal; refused where either kind is above 3, and then they are not.
 #[no_mangle]
-pub extern "C" fn vrd_set_mti(p: Parts, value: u32) -> Moved
-    ensures { λ r. ⌜ SetMtiPromise p value r ⌝ }
+pub extern "C" fn vrd_same_in(
+    state: &[u64; 6],
+    table: &[u32; 624],
+    other: &[u64; 6],
+    other_table: &[u32; 624],
+) -> Equality
+    ensures { λ r. ⌜ VrdSamePromise (now (state .entry)) (now (table .entry)) (now (other .entry)) (now («other_table» .entry)) r ⌝ }
 {
-    if p.kind > 3 {
-        return Moved {
-            refusal: refusal::KIND,
-            next: p,
-        };
-    }
-    let e = parts::set_mti_in(engine(p), value);
-    let next = parts_with(e, p);
-    Moved {
-        refusal: refusal::ANSWERED,
-        next,
-    }
-}
-
-#[no_mangle]
-pub extern "C" fn vrd_mti(p: Parts) -> Position
-    ensures { λ r. ⌜ MtiPromise p r ⌝ }
-{
-    if p.kind > 3 {
-        return Position {
-            refusal: refusal::KIND,
-            mti: 0,
-        };
-    }
-    let mti = parts::mti_in(engine(p));
-    Position {
-        refusal: refusal::ANSWERED,
-        mti,
-    }
-}
-
-#[no_mangle]
-pub extern "C" fn vrd_split(p: Parts) -> Divided
-    ensures { λ r. ⌜ SplitPromise p r ⌝ }
-{
-    if p.kind > 3 {
-        let child = zero_parts();
-        return Divided {
-            refusal: refusal::KIND,
-            parent: p,
-            child,
-        };
-    }
-    let s = parts::split_in(engine(p));
-    let first = s.parent;
-    let second = s.child;
-    let parent = parts_with(first, p);
-    let child = parts_with(second, zero_parts());
-    Divided {
-        refusal: s.refusal,
-        parent,
-        child,
-    }
-}
-
-#[no_mangle]
-pub extern "C" fn vrd_same(p: Parts, mt: &[u32; 624], q: Parts, other: &[u32; 624]) -> Equality
-    ensures { λ r. ⌜ SamePromise p (now (mt .entry)) q (now (other .entry)) r ⌝ }
-{
-    if p.kind > 3 {
+    if state[0] > 3 {
         return Equality {
             refusal: refusal::KIND,
             equal: false,
         };
     }
-    if q.kind > 3 {
+    if other[0] > 3 {
         return Equality {
             refusal: refusal::KIND,
             equal: false,
         };
     }
-    let equal = parts::same_in(engine(p), mt, engine(q), other);
+    let equal = parts::same_in(engine_in(state), table, engine_in(other), other_table);
     Equality {
         refusal: refusal::ANSWERED,
         equal,

@@ -1,115 +1,84 @@
-// Words as they come: of 32 bits, of 64, of 64 read as signed, and 32 words XORed.
-ghost use Rattle.vrd_ffi.specs.Promises.{RandPromise, U64Promise, I64Promise, PseudoPromise};
-use crate::boundary::Parts;
-use crate::boundary::engine;
-use crate::boundary::parts_with;
+// Words as they come.
+ghost use Rattle.vrd_ffi.specs.Promises.{VrdRandPromise, VrdU64Promise, VrdI64Promise, VrdPseudoPromise};
+use crate::answers::SignedWord;
+use crate::answers::Word;
+use crate::moves::move_u32;
+use crate::moves::move_u64;
+use crate::state::engine_in;
+use crate::writing::write;
 use words::refusal;
 
-// A word of 32 bits, and the generator after it.
-#[repr(C)]
-pub struct Word32 {
-    pub refusal: u32,
-    pub word: u32,
-    pub next: Parts,
-}
-
-// A word of 64 bits, and the generator after it.
-#[repr(C)]
-pub struct Word64 {
-    pub refusal: u32,
-    pub word: u64,
-    pub next: Parts,
-}
-
-// A word of 64 bits read as signed, and the generator after it.
-#[repr(C)]
-pub struct Signed64 {
-    pub refusal: u32,
-    pub word: i64,
-    pub next: Parts,
-}
-
+// The next word.
 #[no_mangle]
-pub extern "C" fn vrd_rand(p: Parts, mt: &mut [u32; 624]) -> Word32
-    ensures { λ r. ⌜ RandPromise p (now (mt .entry)) r (now (mt .exit)) ⌝ }
+pub extern "C" fn vrd_rand_in(state: &mut [u64; 6], table: &mut [u32; 624]) -> Word
+    ensures { λ r. ⌜ VrdRandPromise (now (state .entry)) (now (table .entry)) r (now (state .exit)) (now (table .exit)) ⌝ }
 {
-    if p.kind > 3 {
-        return Word32 {
+    if state[0] > 3 {
+        return Word {
+            value: 0,
             refusal: refusal::KIND,
-            word: 0,
-            next: p,
         };
     }
-    let d = random::next_u32(engine(p), mt);
-    let e = d.next;
-    let next = parts_with(e, p);
-    Word32 {
+    let word = move_u32(state, table);
+    Word {
+        value: word as u64,
         refusal: refusal::ANSWERED,
-        word: d.word,
-        next,
     }
 }
 
+// The next word of 64 bits, by the kind's own order of halves.
 #[no_mangle]
-pub extern "C" fn vrd_u64(p: Parts, mt: &mut [u32; 624]) -> Word64
-    ensures { λ r. ⌜ U64Promise p (now (mt .entry)) r (now (mt .exit)) ⌝ }
+pub extern "C" fn vrd_u64_in(state: &mut [u64; 6], table: &mut [u32; 624]) -> Word
+    ensures { λ r. ⌜ VrdU64Promise (now (state .entry)) (now (table .entry)) r (now (state .exit)) (now (table .exit)) ⌝ }
 {
-    if p.kind > 3 {
-        return Word64 {
+    if state[0] > 3 {
+        return Word {
+            value: 0,
             refusal: refusal::KIND,
-            word: 0,
-            next: p,
         };
     }
-    let d = random::next_u64(engine(p), mt);
-    let e = d.next;
-    let next = parts_with(e, p);
-    Word64 {
+    let value = move_u64(state, table);
+    Word {
+        value,
         refusal: refusal::ANSWERED,
-        word: d.word,
-        next,
     }
 }
 
+// The same word, read as signed.
 #[no_mangle]
-pub extern "C" fn vrd_i64(p: Parts, mt: &mut [u32; 624]) -> Signed64
-    ensures { λ r. ⌜ I64Promise p (now (mt .entry)) r (now (mt .exit)) ⌝ }
+pub extern "C" fn vrd_i64_in(state: &mut [u64; 6], table: &mut [u32; 624]) -> SignedWord
+    ensures { λ r. ⌜ VrdI64Promise (now (state .entry)) (now (table .entry)) r (now (state .exit)) (now (table .exit)) ⌝ }
 {
-    if p.kind > 3 {
-        return Signed64 {
+    if state[0] > 3 {
+        return SignedWord {
+            value: 0,
             refusal: refusal::KIND,
-            word: 0,
-            next: p,
         };
     }
-    let d = random::next_u64(engine(p), mt);
-    let e = d.next;
-    let next = parts_with(e, p);
-    let word = signed::signed_u64(d.word);
-    Signed64 {
+    let word = move_u64(state, table);
+    let value = signed::signed_u64(word);
+    SignedWord {
+        value,
         refusal: refusal::ANSWERED,
-        word,
-        next,
     }
 }
 
+// The next 32 words, XORed.
 #[no_mangle]
-pub extern "C" fn vrd_pseudo(p: Parts, mt: &mut [u32; 624]) -> Word32
-    ensures { λ r. ⌜ PseudoPromise p (now (mt .entry)) r (now (mt .exit)) ⌝ }
+pub extern "C" fn vrd_pseudo_in(state: &mut [u64; 6], table: &mut [u32; 624]) -> Word
+    ensures { λ r. ⌜ VrdPseudoPromise (now (state .entry)) (now (table .entry)) r (now (state .exit)) (now (table .exit)) ⌝ }
 {
-    if p.kind > 3 {
-        return Word32 {
+    if state[0] > 3 {
+        return Word {
+            value: 0,
             refusal: refusal::KIND,
-            word: 0,
-            next: p,
         };
     }
-    let d = random::pseudo_in(engine(p), mt);
+    let d = random::pseudo_in(engine_in(state), table);
     let e = d.next;
-    let next = parts_with(e, p);
-    Word32 {
+    write(e, state);
+    Word {
+        value: d.word as u64,
         refusal: refusal::ANSWERED,
-        word: d.word,
-        next,
     }
 }

@@ -1,17 +1,27 @@
--- `move_u32` meets its contract, kind by kind.
-use native.Mathlib.Omega.{arith}
+-- `move_u32` meets its contract: the twister, Pcg32, and the kinds whose own word has 64 bits.
 use borrow.Author.Needs.{needs}
-use Rattle.random.specs.Generator.{drawn32, wordOf, step}
-use Rattle.vrd_ffi.specs.Boundary.{backendOf, partsWith}
-use Rattle.vrd_ffi.specs.InPlaceLaws.{twister-moved, half-moved}
+use native.Mathlib.Omega.{arith}
+use Rattle.vrd_ffi.specs.MovesLaws.{twister-moved, pcg32-moved, half-moved}
 use Rattle.vrd_ffi.proofs.moves.move_u32.Statement.{statement}
 use Rattle.vrd_ffi.proofs.moves.move_u32.Tie as tie
+
+element-copy-out-kind : tie.Need-element-copy-out-kind
+element-copy-out-kind c = search needs
+
+position-requires : tie.Need-position-requires
+position-requires c κs = search needs
 
 rand-in-requires : tie.Need-rand-in-requires
 rand-in-requires c κs = search needs
 
+put-position-requires : tie.Need-put-position-requires
+put-position-requires c κs = search needs
+
 returns : tie.Need-returns
-returns c = rw (c .before .before .before .if1 .taken) (twister-moved _ _ _ _ _ _ _ _ (c .rand-in .ensures))
+returns c =
+    let draw = c .before .before in
+    let drawn = rw (draw .before .position .ensures) at (draw .rand-in .ensures) in
+    twister-moved _ _ _ (draw .before .before .before .before .if1 .taken) _ _ drawn (c .put-position .ensures)
 
 pcg32-in-requires : tie.Need-pcg32-in-requires
 pcg32-in-requires c κs = search needs
@@ -19,17 +29,20 @@ pcg32-in-requires c κs = search needs
 next-u32-requires : tie.Need-next-u32-requires
 next-u32-requires c κs = search needs
 
-element-copy-out-t14 : tie.Need-element-copy-out-t14
-element-copy-out-t14 c = search needs
+element-copy-out-put-small : tie.Need-element-copy-out-put-small
+element-copy-out-put-small c = search needs
 
-element-copy-out-t17 : tie.Need-element-copy-out-t17
-element-copy-out-t17 c = search needs
+element-copy-out-put-small-2 : tie.Need-element-copy-out-put-small-2
+element-copy-out-put-small-2 c = search needs
+
+put-small-requires : tie.Need-put-small-requires
+put-small-requires c κs = search needs
 
 returns-2 : tie.Need-returns-2
-unfolding drawn32 wordOf step backendOf partsWith
 returns-2 c =
-    let draw = c .before .before .before in
-    rw (draw .before .before .before .if2 .taken, draw .next-u32 .ensures, draw .before .pcg32-in .ensures)
+    let draw = c .before .before .before .before in
+    let drawn = rw (draw .before .pcg32-in .ensures) at (draw .next-u32 .ensures) in
+    pcg32-moved _ _ _ (draw .before .before .before .if2 .taken) _ drawn (c .put-small .ensures)
 
 move-wide-requires : tie.Need-move-wide-requires
 move-wide-requires c κs = search needs
@@ -40,18 +53,23 @@ cast-result c = search needs
 returns-3 : tie.Need-returns-3
 returns-3 c =
     let wide = c .before .before in
-    half-moved _ _ _ _ _ _ _ _ (λ n. omega (arith, wide .before .before .pre, wide .before .if1 .left, wide .if2 .left)) (c .move-wide .ensures _ _)
+    let known = wide .before .before .before .pre in
+    half-moved _ _ _ _ _ (λ n. omega (arith, known, wide .before .if1 .left, wide .if2 .left)) (c .move-wide .ensures _)
 
 pub move-u32-spec : {M : Type 1} → statement M
 move-u32-spec =
     tie.close
     (tie.spec
+    element-copy-out-kind
+    position-requires
     rand-in-requires
+    put-position-requires
     returns
     pcg32-in-requires
     next-u32-requires
-    element-copy-out-t14
-    element-copy-out-t17
+    element-copy-out-put-small
+    element-copy-out-put-small-2
+    put-small-requires
     returns-2
     move-wide-requires
     cast-result

@@ -1,16 +1,26 @@
--- `move_u64` meets its contract, kind by kind.
+-- `move_u64` meets its contract: the twister, Pcg32, and the kinds whose own word has 64 bits.
 use borrow.Author.Needs.{needs}
-use Rattle.random.specs.Generator.{drawn64, word64Of, advance, step}
-use Rattle.vrd_ffi.specs.Boundary.{backendOf, partsWith}
-use Rattle.vrd_ffi.specs.InPlaceLaws.{twister-moved64}
+use Rattle.vrd_ffi.specs.MovesLaws.{twister-moved64, pcg32-moved64}
 use Rattle.vrd_ffi.proofs.moves.move_u64.Statement.{statement}
 use Rattle.vrd_ffi.proofs.moves.move_u64.Tie as tie
+
+element-copy-out-kind : tie.Need-element-copy-out-kind
+element-copy-out-kind c = search needs
+
+position-requires : tie.Need-position-requires
+position-requires c κs = search needs
 
 next-u64-in-requires : tie.Need-next-u64-in-requires
 next-u64-in-requires c κs = search needs
 
+put-position-requires : tie.Need-put-position-requires
+put-position-requires c κs = search needs
+
 returns : tie.Need-returns
-returns c = rw (c .before .before .before .if1 .taken) (twister-moved64 _ _ _ _ _ _ _ _ (c .next-u64-in .ensures))
+returns c =
+    let draw = c .before .before in
+    let drawn = rw (draw .before .position .ensures) at (draw .next-u64-in .ensures) in
+    twister-moved64 _ _ _ (draw .before .before .before .before .if1 .taken) _ _ drawn (c .put-position .ensures)
 
 pcg32-in-requires : tie.Need-pcg32-in-requires
 pcg32-in-requires c κs = search needs
@@ -18,34 +28,41 @@ pcg32-in-requires c κs = search needs
 next-u64-requires : tie.Need-next-u64-requires
 next-u64-requires c κs = search needs
 
-element-copy-out-t14 : tie.Need-element-copy-out-t14
-element-copy-out-t14 c = search needs
+element-copy-out-put-small : tie.Need-element-copy-out-put-small
+element-copy-out-put-small c = search needs
 
-element-copy-out-t17 : tie.Need-element-copy-out-t17
-element-copy-out-t17 c = search needs
+element-copy-out-put-small-2 : tie.Need-element-copy-out-put-small-2
+element-copy-out-put-small-2 c = search needs
+
+put-small-requires : tie.Need-put-small-requires
+put-small-requires c κs = search needs
 
 returns-2 : tie.Need-returns-2
-unfolding drawn64 word64Of advance step backendOf partsWith
 returns-2 c =
-    let draw = c .before .before .before in
-    rw (draw .before .before .before .if2 .taken, draw .next-u64 .ensures, draw .before .pcg32-in .ensures)
+    let draw = c .before .before .before .before in
+    let drawn = rw (draw .before .pcg32-in .ensures) at (draw .next-u64 .ensures) in
+    pcg32-moved64 _ _ _ (draw .before .before .before .if2 .taken) _ drawn (c .put-small .ensures)
 
 move-wide-requires : tie.Need-move-wide-requires
 move-wide-requires c κs = search needs
 
 returns-3 : tie.Need-returns-3
-returns-3 c = c .move-wide .ensures _ _
+returns-3 c = c .move-wide .ensures _
 
 pub move-u64-spec : {M : Type 1} → statement M
 move-u64-spec =
     tie.close
     (tie.spec
+    element-copy-out-kind
+    position-requires
     next-u64-in-requires
+    put-position-requires
     returns
     pcg32-in-requires
     next-u64-requires
-    element-copy-out-t14
-    element-copy-out-t17
+    element-copy-out-put-small
+    element-copy-out-put-small-2
+    put-small-requires
     returns-2
     move-wide-requires
     returns-3)

@@ -1,4 +1,0 @@
--- What n draws in a row come to: the sums of their values and of the words that they used, and the generator after them.
-pub mod Sums
-pub mod Promises
-pub mod PromisesLaws

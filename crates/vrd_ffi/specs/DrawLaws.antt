@@ -1,0 +1,147 @@
+-- The draws of one number, by the draw that they stand on: where a call has nothing to refuse, its reply is that draw's.
+use Prim.Native.Nat.{ℕ, _+_, _-_, _%_, _^_, _≤_, _<_}
+use native.Mathlib.Nat.{zero-add, mod-eq-of-lt}
+use native.Mathlib.Omega.{arith}
+use borrow.Author.Tests.{eqb-true, eqb-false, eq-eqb, ne-eqb}
+use lib.Dec.{eqb}
+use lib.IntN.{ℤ, pos, _+ℤ_}
+use lib.ListN.{length}
+use lib.Signed.{ltZ}
+use mathlib.Core.Bool.{Bool, true, false}
+use mathlib.Core.List.{List}
+use mathlib.Core.Path.{_≡_, refl, sym, _∙_, ap}
+use mir.Syntax.{w32}
+use mir.Val.{SFits}
+use Rattle.words.specs.Draw.{Words, Outcome, boundedBy}
+use Rattle.words.specs.Refusal as refusal
+use Rattle.signed.specs.GapLaws.{gap-fits}
+use Rattle.signed.specs.Signed.{wrappedSum, gap}
+use Rattle.signed.specs.SignedLaws.{sum-exact}
+use Rattle.random.specs.Generator.{wordsOf}
+use Rattle.random.specs.declared.backend.Random.{Random}
+use Rattle.bounded.specs.Answers as library
+use Rattle.bounded.specs.Budgeted.{raised-answered, raised-refused}
+use Rattle.bounded.specs.RangeLaws.{range-drawn}
+use Rattle.bounded.specs.Ranges.{raised, rangeBy, charBy}
+use Rattle.spans.specs.IntAnswers.{intAnswered}
+use Rattle.spans.specs.SpanLaws.{span-drawn, uint-drawn, int-drawn}
+use Rattle.spans.specs.Spans.{spanBy, uintBy, intBy, countedFrom}
+use Rattle.lists.specs.CheckLaws as checks
+use Rattle.lists.specs.CheckedDraws.{unless-passed}
+use Rattle.lists.specs.Checks.{listRefusal, sliceRefusal}
+use Rattle.lists.specs.Choosing as choosing
+use Rattle.lists.specs.Limit.{listLimit}
+use Rattle.lists.specs.Slicing as slicing
+use Rattle.vrd_ffi.specs.declared.answers.Number.{Number}
+use Rattle.vrd_ffi.specs.Answers.{Reply, told, formed, atBoundary}
+use Rattle.vrd_ffi.specs.AnswersLaws.{same-reply, told-formed}
+use Rattle.vrd_ffi.specs.Choosing.{entryOf}
+use Rattle.vrd_ffi.specs.Counting.{counted, countedModulo}
+use Rattle.vrd_ffi.specs.Handed.{number, integer, choice, numberOf, integerOf, choiceOf, startOf, drawnBy, countedBy}
+use Rattle.vrd_ffi.specs.Packed.{unpacked, Draws, Below}
+use Rattle.vrd_ffi.specs.State.{generatorIn}
+
+-- nothing added changes nothing
+raised-zero : (o : Outcome) → raised 0 o ≡ o
+raised-zero o = go (eqb (o .refusal) 0) refl
+  where
+    go : (b : Bool) → eqb (o .refusal) 0 ≡ b → raised 0 o ≡ o
+    go true e =
+        let z = eqb-true (o .refusal) 0 e in
+        raised-answered 0 o z ∙ rw zero-add (ap (λ (n : ℕ). record { refusal = n; value = o .value; used = o .used }) (sym z))
+    go false e = raised-refused 0 o (eqb-false (o .refusal) 0 e)
+
+-- the draw that every call here stands on
+abbrev one : (r budget least : ℕ) → Words → Outcome
+one r budget least w = raised least (boundedBy w r budget)
+
+module _ (s t : List ℕ) (budget p : ℕ) {s′ u : List ℕ} where
+  -- a call that replies as it does
+  drawn-as : (r least : ℕ) → Draws s t r budget least p s′ u → (by : Words → Outcome)
+      → one r budget least (wordsOf (generatorIn s t)) ≡ by (wordsOf (generatorIn s t))
+      → told (unpacked p) s′ u ≡ atBoundary s t (number 0 0 refusal.kind) (drawnBy by)
+  drawn-as r least d by e =
+      d ∙ same-reply s t (number 0 0 refusal.kind) (drawnBy (one r budget least)) (drawnBy by)
+      (ap (λ (o : Outcome). numberOf (library.answered (generatorIn s t) o)) e)
+
+  pub bounded-drawn : (r : ℕ) → Draws s t r budget 0 p s′ u
+      → told (unpacked p) s′ u ≡ atBoundary s t (number 0 0 refusal.kind) (drawnBy (λ w. boundedBy w r budget))
+  bounded-drawn r d = drawn-as r 0 d (λ w. boundedBy w r budget) (raised-zero (boundedBy (wordsOf (generatorIn s t)) r budget))
+
+  pub range-drawn-by : (min max : ℕ) → min < max → Draws s t (max - min) budget min p s′ u
+      → told (unpacked p) s′ u ≡ atBoundary s t (number 0 0 refusal.kind) (drawnBy (λ w. rangeBy w min max budget))
+  range-drawn-by min max h d = drawn-as (max - min) min d (λ w. rangeBy w min max budget) (sym (range-drawn (wordsOf (generatorIn s t)) min max budget h))
+
+  pub char-drawn : Draws s t 26 budget 97 p s′ u
+      → told (unpacked p) s′ u ≡ atBoundary s t (number 0 0 refusal.kind) (drawnBy (λ w. charBy w budget))
+  unfolding charBy
+  char-drawn d = drawn-as 26 97 d (λ w. charBy w budget) refl
+
+  pub uint-drawn-by : (min max : ℕ) → min < max → Draws s t (max - min + 1) budget min p s′ u
+      → told (unpacked p) s′ u ≡ atBoundary s t (number 0 0 refusal.kind) (drawnBy (λ w. uintBy w min max budget))
+  uint-drawn-by min max h d =
+      let w = wordsOf (generatorIn s t) in
+      let some : 0 < max - min = omega arith in
+      drawn-as (max - min + 1) min d (λ w. uintBy w min max budget)
+      (ap (raised min) (sym (span-drawn w (max - min) budget some)) ∙ sym (uint-drawn w min max budget (omega arith)))
+
+  -- ---- of a list
+
+  pub start-drawn : (n window : ℕ) → n ≤ listLimit → 0 < window → window ≤ n → Draws s t (n - window + 1) budget 0 p s′ u
+      → told (unpacked p) s′ u ≡ atBoundary s t (number 0 0 refusal.kind) (λ g. startOf (slicing.startedBy g (slicing.sliceBy (wordsOf g) n window budget)))
+  unfolding slicing.startedBy slicing.sliceBy library.answered
+  start-drawn n window h some room d =
+      let w = wordsOf (generatorIn s t) in
+      let allowed = checks.slice-only n window (checks.allowed (omega arith) h some room) in
+      let passes = unless-passed (sliceRefusal n window) (boundedBy w (n - window + 1) budget) allowed in
+      drawn-as (n - window + 1) 0 d (λ w. slicing.sliceBy w n window budget) (raised-zero (boundedBy w (n - window + 1) budget) ∙ sym passes)
+
+  pub choice-drawn : (list : List ℕ) → 0 < length list → length list ≤ listLimit → Draws s t (length list) budget 0 p s′ u → (a : Number) → a ≡ unpacked p
+      → told (entryOf list a) s′ u
+      ≡ atBoundary s t (choice 0 0 0 refusal.kind) (λ g. choiceOf (choosing.chosenBy g (choosing.chooseBy (wordsOf g) list budget)))
+  unfolding choosing.chosenBy choosing.chooseBy choosing.entryOf choosing.placeBy library.answered
+  choice-drawn list some h d a e =
+      let g = generatorIn s t in
+      let w = wordsOf g in
+      let n = length list in
+      let passes = unless-passed (listRefusal n) (boundedBy w n budget) (checks.list-only (checks.allowed some h)) in
+      let same : one n budget 0 w ≡ choosing.placeBy w n budget = raised-zero (boundedBy w n budget) ∙ sym passes in
+      ap (λ (x : Number). told (entryOf list x) s′ u) e
+      ∙ told-formed s t (number 0 0 refusal.kind) (drawnBy (one n budget 0)) (entryOf list) d
+      ∙ same-reply s t (choice 0 0 0 refusal.kind) (λ g. formed (entryOf list) (drawnBy (one n budget 0) g))
+      (λ g. choiceOf (choosing.chosenBy g (choosing.chooseBy (wordsOf g) list budget)))
+      (ap (λ (o : Outcome). formed (entryOf list) (numberOf (library.answered g o))) same)
+
+-- where it is answered, the number drawn is below n
+pub number-below : (n p : ℕ) (a : Number) → a ≡ unpacked p → Below n 0 p → a .refusal ≡ 0 → a .value < n
+number-below n p a e below z = let l = below (ap (λ (x : Number). x .refusal) (sym e) ∙ z) in rw e (omega (arith, l))
+
+-- ---- signed
+
+-- the sum modulo 2^32 is exact where what is added is at most the gap
+counted-exact : {min max : ℤ} (a : Number) → SFits w32 min → SFits w32 max → (a .refusal ≡ 0 → (a .value < 2 ^ 32) × (a .value ≤ gap min max))
+    → countedModulo min a ≡ counted min a
+unfolding countedModulo
+counted-exact {min} {max} a f f′ small = go (eqb (a .refusal) 0) refl
+  where
+    go : (b : Bool) → eqb (a .refusal) 0 ≡ b → countedModulo min a ≡ counted min a
+    go true e =
+        let (word, within) = small (eqb-true (a .refusal) 0 e) in
+        let whole : a .value % 2 ^ 32 ≡ a .value = mod-eq-of-lt word in
+        let sum : wrappedSum 32 min (a .value) ≡ min +ℤ pos (a .value) = sum-exact w32 min (a .value) (gap-fits f f′ within) in
+        rw (e, whole, sum)
+    go false e = rw e
+
+module _ (s t : List ℕ) {min max : ℤ} (f : SFits w32 min) (f′ : SFits w32 max) (last budget p : ℕ) where
+  pub integer-drawn : ltZ max min ≡ false → last ≡ gap min max → 0 < last → last < 2 ^ 32 → {s′ u : List ℕ} → Draws s t (last + 1) budget 0 p s′ u → Below (last + 1) 0 p
+      → told (countedModulo min (unpacked p)) s′ u ≡ atBoundary s t (integer (pos 0) 0 refusal.kind) (countedBy (λ w. intBy w min max budget))
+  unfolding intAnswered countedFrom library.answered
+  integer-drawn order far wide small {s′} {u} d below =
+      let g = generatorIn s t in
+      let w = wordsOf g in
+      let same : one (last + 1) budget 0 w ≡ spanBy w (gap min max) budget =
+      raised-zero (boundedBy w (last + 1) budget) ∙ sym (span-drawn w last budget wide) ∙ ap (λ (n : ℕ). spanBy w n budget) far in
+      ap (λ (a : _). told a s′ u) (counted-exact (unpacked p) f f′ (λ z. let b = below z in (omega arith, rw (sym far) (omega arith))))
+      ∙ told-formed s t (number 0 0 refusal.kind) (drawnBy (one (last + 1) budget 0)) (counted min) d
+      ∙ same-reply s t (integer (pos 0) 0 refusal.kind) (λ g. formed (counted min) (drawnBy (one (last + 1) budget 0) g)) (countedBy (λ w. intBy w min max budget))
+      (ap (λ (o : Outcome). formed (counted min) (numberOf (library.answered g o))) same ∙ ap (λ (o : _). integerOf (intAnswered g o)) (sym (int-drawn w min max budget order)))
