@@ -20,31 +20,40 @@ use Rattle.bench_ffi.specs.declared.lent_loops.Sums.{Sums}
 use Rattle.bench_ffi.specs.Loops.{pcg32Words, pcg64Words, twisterWords, xoshiroWords}
 use Rattle.bench_ffi.specs.Rows.{wordsRow, drawsRow, sums, sumsOf}
 
+-- a generator's own words in a row: kind 0,
 abbrev pub XoshiroWordsPromise : Xoshiro256PlusPlus → ℕ → drawn-xoshiro.Drawn64 → Type 0
 XoshiroWordsPromise g n r = r ≡ xoshiroWords n g
 
+-- kind 2,
 abbrev pub Pcg32WordsPromise : Pcg32 → ℕ → drawn-pcg32.Drawn32 → Type 0
 Pcg32WordsPromise g n r = r ≡ pcg32Words n g
 
+-- kind 3,
 abbrev pub Pcg64WordsPromise : Pcg64 → ℕ → drawn-pcg64.Drawn64 → Type 0
 Pcg64WordsPromise g n r = r ≡ pcg64Words n g
 
+-- kind 1 over a lent table,
 abbrev pub TwisterWordsInPromise : List ℕ → ℕ → ℕ → Step → List ℕ → Type 0
 TwisterWordsInPromise mt mti n r mt′ = stepped r mt′ ≡ twisterWords n (held mt mti)
 
+-- and by value
 abbrev pub TwisterWordsPromise : MersenneTwister → ℕ → drawn-twister.Drawn32 → Type 0
 TwisterWordsPromise g n r = r ≡ twisterWords n g
 
 -- ---- rows from a lent generator: whether over its table or by value, the same
 
+-- words in a row over the lent table,
 abbrev pub BenchWordsInPromise : List ℕ → List ℕ → (n : ℕ) → Word → List ℕ → List ℕ → Type 0
 BenchWordsInPromise s t n r s′ t′ = told r s′ t′ ≡ atBoundary s t (word 0 refusal.kind) (λ g. wordOf32 (wordsRow n g))
 
+-- and by value
 abbrev pub BenchWordsByValuePromise : List ℕ → List ℕ → (n : ℕ) → Word → List ℕ → List ℕ → Type 0
 BenchWordsByValuePromise = BenchWordsInPromise
 
+-- draws in a row over the lent table,
 abbrev pub BenchDrawsInPromise : List ℕ → List ℕ → (r budget n : ℕ) → Sums → List ℕ → List ℕ → Type 0
 BenchDrawsInPromise s t r budget n a s′ t′ = told a s′ t′ ≡ atBoundary s t (sums 0 0 refusal.kind) (λ g. sumsOf (drawsRow r budget n g))
 
+-- and by value
 abbrev pub BenchDrawsByValuePromise : List ℕ → List ℕ → (r budget n : ℕ) → Sums → List ℕ → List ℕ → Type 0
 BenchDrawsByValuePromise = BenchDrawsInPromise

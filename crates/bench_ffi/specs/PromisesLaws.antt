@@ -16,9 +16,11 @@ use Rattle.vrd_ffi.specs.AnswersLaws.{told-apart}
 use Rattle.vrd_ffi.specs.declared.answers.Word.{Word}
 use Rattle.bench_ffi.specs.declared.lent_loops.Sums.{Sums}
 use Rattle.bench_ffi.specs.Promises.{BenchDrawsByValuePromise, BenchDrawsInPromise, BenchWordsByValuePromise, BenchWordsInPromise}
-use Rattle.bench_ffi.specs.Promises.{Pcg32WordsPromise, Pcg64WordsPromise, TwisterWordsInPromise, TwisterWordsPromise, XoshiroWordsPromise}
+use Rattle.bench_ffi.specs.Promises.{Pcg32WordsPromise, Pcg64WordsPromise, TwisterWordsInPromise}
+use Rattle.bench_ffi.specs.Promises.{TwisterWordsPromise, XoshiroWordsPromise}
 
-pub one-xoshiro-words : (g : Xoshiro256PlusPlus) (n : ℕ) {a b : drawn-xoshiro.Drawn64} → XoshiroWordsPromise g n a → XoshiroWordsPromise g n b → a ≡ b
+pub one-xoshiro-words : (g : Xoshiro256PlusPlus) (n : ℕ) {a b : drawn-xoshiro.Drawn64}
+    → XoshiroWordsPromise g n a → XoshiroWordsPromise g n b → a ≡ b
 one-xoshiro-words g n p q = p ∙ sym q
 
 pub one-pcg32-words : (g : Pcg32) (n : ℕ) {a b : drawn-pcg32.Drawn32} → Pcg32WordsPromise g n a → Pcg32WordsPromise g n b → a ≡ b
@@ -27,10 +29,12 @@ one-pcg32-words g n p q = p ∙ sym q
 pub one-pcg64-words : (g : Pcg64) (n : ℕ) {a b : drawn-pcg64.Drawn64} → Pcg64WordsPromise g n a → Pcg64WordsPromise g n b → a ≡ b
 one-pcg64-words g n p q = p ∙ sym q
 
-pub one-twister-words-in : (mt : List ℕ) (mti n : ℕ) {a b : Step} {mt₁ mt₂ : List ℕ} → TwisterWordsInPromise mt mti n a mt₁ → TwisterWordsInPromise mt mti n b mt₂ → (a ≡ b) × (mt₁ ≡ mt₂)
+pub one-twister-words-in : (mt : List ℕ) (mti n : ℕ) {a b : Step} {mt₁ mt₂ : List ℕ}
+    → TwisterWordsInPromise mt mti n a mt₁ → TwisterWordsInPromise mt mti n b mt₂ → (a ≡ b) × (mt₁ ≡ mt₂)
 one-twister-words-in mt mti n p q = step-apart (p ∙ sym q)
 
-pub one-twister-words : (g : MersenneTwister) (n : ℕ) {a b : drawn-twister.Drawn32} → TwisterWordsPromise g n a → TwisterWordsPromise g n b → a ≡ b
+pub one-twister-words : (g : MersenneTwister) (n : ℕ) {a b : drawn-twister.Drawn32}
+    → TwisterWordsPromise g n a → TwisterWordsPromise g n b → a ≡ b
 one-twister-words g n p q = p ∙ sym q
 
 -- ---- rows from a lent generator: one answer, one state, one table
@@ -44,8 +48,8 @@ module _ (s t : List ℕ) {s₁ s₂ t₁ t₂ : List ℕ} where
       → (a ≡ b) × (s₁ ≡ s₂) × (t₁ ≡ t₂)
   one-bench-words-by-value = one-bench-words-in
 
-  pub one-bench-draws-in : (r budget n : ℕ) {a b : Sums} → BenchDrawsInPromise s t r budget n a s₁ t₁ → BenchDrawsInPromise s t r budget n b s₂ t₂
-      → (a ≡ b) × (s₁ ≡ s₂) × (t₁ ≡ t₂)
+  pub one-bench-draws-in : (r budget n : ℕ) {a b : Sums}
+      → BenchDrawsInPromise s t r budget n a s₁ t₁ → BenchDrawsInPromise s t r budget n b s₂ t₂ → (a ≡ b) × (s₁ ≡ s₂) × (t₁ ≡ t₂)
   one-bench-draws-in r budget n p q = told-apart (p ∙ sym q)
 
   pub one-bench-draws-by-value : (r budget n : ℕ) {a b : Sums}

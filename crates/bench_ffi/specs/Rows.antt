@@ -1,5 +1,5 @@
--- Words and draws in a row from a generator of any kind: the XOR of the words, or what the draws' values and the words that they used come to, modulo
--- 2^64, and the generator after them. The loop over a lent table and the loop by value have one definition.
+-- Words and draws in a row from a generator of any kind: the XOR of the words, or what the draws' values and the words that they used come
+-- to, modulo 2^64, and the generator after them. The loop over a lent table and the loop by value have one definition.
 use lib.Dec.{eqb}
 use mathlib.Core.List.{List}
 use Prim.Native.Nat.{ℕ, zero, suc, _+_, _%_, _^_}
@@ -42,16 +42,20 @@ drawsRow r budget (suc n) g = plus (drawsRow r budget n g) (oneDraw r budget (dr
 
 -- ---- what the loops have
 
+-- over a lent table
 abbrev pub lentTotal : EngineSums → List ℕ → Total
 lentTotal s t = record { sum = s .sum; used = s .used; next = joinedWith (s .next) t }
 
+-- by value
 abbrev pub valueTotal : RandomSums → Total
 valueTotal s = record { sum = s .sum; used = s .used; next = s .next }
 
 -- ---- what the exports hand out
 
+-- sums, put together
 abbrev pub sums : (sum used refusal : ℕ) → Sums
 sums a b n = record { sum = a; used = b; refusal = n }
 
+-- what draws come to, handed out
 abbrev pub sumsOf : Total → Reply Sums
 sumsOf t = gives (sums (t .sum) (t .used) 0) (t .next)

@@ -1,5 +1,5 @@
-// Loops over a lent generator: its state is read once and written once, and in between its small words are handed on and its table is lent. What the
-// calls in place cost beside them is so told apart from what the library's calls cost.
+// Loops over a lent generator: its state is read once and written once, and in between its small words are handed on and its table is
+// lent. What the calls in place cost beside them is so told apart from what the library's calls cost.
 ghost use mathlib.Core.Path.{_≡_};
 ghost use Rattle.random.specs.Lent.{joinedWith, joinedWord};
 ghost use Rattle.bench_ffi.specs.Promises.{BenchWordsInPromise, BenchDrawsInPromise};

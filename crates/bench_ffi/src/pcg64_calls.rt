@@ -1,11 +1,13 @@
 // Exports of Pcg64; numbers of 128 bits are a high and a low word.
-ghost use Rattle.pcg.specs.Pcg64Promises.{Pcg64FromU128SeedPromise, Pcg64FromSeedStreamPromise, Pcg64FromSeedPromise, Pcg64NextU64Promise, Pcg64NextU32Promise};
+ghost use Rattle.pcg.specs.Pcg64Promises.{Pcg64FromU128SeedPromise, Pcg64FromSeedStreamPromise, Pcg64FromSeedPromise};
+ghost use Rattle.pcg.specs.Pcg64Promises.{Pcg64NextU64Promise, Pcg64NextU32Promise};
 ghost use Rattle.bench_ffi.specs.Promises.{Pcg64WordsPromise};
 use pcg::Pcg64;
 use pcg::pcg64::Drawn32;
 use pcg::pcg64::Drawn64;
 use wrapping::Wide;
 
+// Made of a seed number.
 #[no_mangle]
 pub extern "C" fn pcg64_from_u128_seed(seed: Wide) -> Pcg64
     ensures { λ r. ⌜ Pcg64FromU128SeedPromise seed r ⌝ }
@@ -13,6 +15,7 @@ pub extern "C" fn pcg64_from_u128_seed(seed: Wide) -> Pcg64
     Pcg64::from_u128_seed(seed)
 }
 
+// Made of a seed and a stream.
 #[no_mangle]
 pub extern "C" fn pcg64_from_seed_stream(seed: Wide, stream: Wide) -> Pcg64
     ensures { λ r. ⌜ Pcg64FromSeedStreamPromise seed stream r ⌝ }
@@ -20,6 +23,7 @@ pub extern "C" fn pcg64_from_seed_stream(seed: Wide, stream: Wide) -> Pcg64
     Pcg64::from_seed_stream(seed, stream)
 }
 
+// Made of 32 bytes.
 #[no_mangle]
 pub extern "C" fn pcg64_from_seed(seed: &[u8; 32]) -> Pcg64
     ensures { λ r. ⌜ Pcg64FromSeedPromise (now (seed .entry)) r ⌝ }
@@ -27,6 +31,7 @@ pub extern "C" fn pcg64_from_seed(seed: &[u8; 32]) -> Pcg64
     Pcg64::from_seed(*seed)
 }
 
+// The next word.
 #[no_mangle]
 pub extern "C" fn pcg64_next_u64(g: Pcg64) -> Drawn64
     ensures { λ r. ⌜ Pcg64NextU64Promise g r ⌝ }
@@ -34,6 +39,7 @@ pub extern "C" fn pcg64_next_u64(g: Pcg64) -> Drawn64
     g.next_u64()
 }
 
+// The high half of the next word.
 #[no_mangle]
 pub extern "C" fn pcg64_next_u32(g: Pcg64) -> Drawn32
     ensures { λ r. ⌜ Pcg64NextU32Promise g r ⌝ }

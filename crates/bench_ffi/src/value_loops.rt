@@ -30,11 +30,7 @@ fn words_by_value(g: Random, n: u64) -> Word32
 
 // The XOR of the next n words of 32 bits.
 #[no_mangle]
-pub extern "C" fn bench_words_by_value(
-    state: &mut [u64; 6],
-    table: &mut [u32; 624],
-    n: u64,
-) -> Word
+pub extern "C" fn bench_words_by_value(state: &mut [u64; 6], table: &mut [u32; 624], n: u64) -> Word
     ensures { λ r. ⌜ BenchWordsByValuePromise (now (state .entry)) (now (table .entry)) n r (now (state .exit)) (now (table .exit)) ⌝ }
 {
     if state[0] > 3 {
@@ -88,7 +84,8 @@ pub extern "C" fn bench_draws_by_value(
     budget: u32,
     n: u64,
 ) -> Sums
-    ensures { λ a. ⌜ BenchDrawsByValuePromise (now (state .entry)) (now (table .entry)) r budget n a (now (state .exit)) (now (table .exit)) ⌝ }
+    ensures { λ a. ⌜ BenchDrawsByValuePromise (now (state .entry)) (now (table .entry)) r budget n a
+        (now (state .exit)) (now (table .exit)) ⌝ }
 {
     if state[0] > 3 {
         return Sums {

@@ -16,15 +16,18 @@ pub record Told (A : Type 0) : Type 0 where
   pub state : List ℕ
   pub table : List ℕ
 
+-- put together
 abbrev pub told : {A : Type 0} → A → List ℕ → List ℕ → Told A
 told a s t = record { answer = a; state = s; table = t }
 
--- what the library replies by value: the refusal's number (0 where the call is answered), the answer as it is handed out, and the next generator
+-- what the library replies by value: the refusal's number (0 where the call is answered), the answer as it is handed out, and the next
+-- generator
 pub record Reply (A : Type 0) : Type 0 where
   pub refusal : ℕ
   pub answer : A
   pub next : Random
 
+-- put together
 abbrev pub reply : {A : Type 0} → ℕ → A → Random → Reply A
 reply n a g = record { refusal = n; answer = a; next = g }
 

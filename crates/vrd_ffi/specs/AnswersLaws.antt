@@ -1,5 +1,5 @@
--- The laws of the rule: a kind above 3 is refused; of every other what is told is the library's reply, written back; and what is told is that answer,
--- that state and that table.
+-- The laws of the rule: a kind above 3 is refused; of every other what is told is the library's reply, written back; and what is told is
+-- that answer, that state and that table.
 use mathlib.Core.Path.{_≡_, refl, sym, _∙_, ap}
 use mathlib.Core.Bool.{Bool, true, false}
 use mathlib.Core.List.{List}
@@ -58,8 +58,8 @@ unfolding atBoundary
 same-reply {A} s t none one two h = ap (λ (r : Reply A). ofKnown s (told none s t) (written s r)) h
 
 -- an answer handed out in another form
-pub told-formed : {A B : Type 0} (s t : List ℕ) (none : A) (call : Random → Reply A) (f : A → B) {a : A} {s′ t′ : List ℕ} → told a s′ t′ ≡ atBoundary s t none call
-    → told (f a) s′ t′ ≡ atBoundary s t (f none) (λ g. formed f (call g))
+pub told-formed : {A B : Type 0} (s t : List ℕ) (none : A) (call : Random → Reply A) (f : A → B) {a : A} {s′ t′ : List ℕ}
+    → told a s′ t′ ≡ atBoundary s t none call → told (f a) s′ t′ ≡ atBoundary s t (f none) (λ g. formed f (call g))
 unfolding atBoundary ofKnown
 told-formed {A} {B} s t none call f h = ap (λ (x : Told A). told (f (x .answer)) (x .state) (x .table)) h ∙ go (leb (kindIn s) 3) refl
   where
@@ -68,3 +68,13 @@ told-formed {A} {B} s t none call f h = ap (λ (x : Told A). told (f (x .answer)
         ≡ atBoundary s t (f none) (λ g. formed f (call g))
     go true e = rw e
     go false e = rw e
+
+-- a refused call leaves the very lists that came: where the library hands the generator back as it was
+pub refused-keeps : {A : Type 0} (s t : List ℕ) (none : A) (call : Random → Reply A) → (call (generatorIn s t) .refusal ≡ refusal.answered → ⊥)
+    → call (generatorIn s t) .next ≡ generatorIn s t → (atBoundary s t none call .state ≡ s) × (atBoundary s t none call .table ≡ t)
+unfolding atBoundary ofKnown stateAfter
+refused-keeps s t none call h e = go (leb (kindIn s) 3) refl
+  where
+    go : (b : Bool) → leb (kindIn s) 3 ≡ b → (atBoundary s t none call .state ≡ s) × (atBoundary s t none call .table ≡ t)
+    go true k = rw (k, ne-eqb (call (generatorIn s t) .refusal) 0 h) (refl, ap (λ (g : Random). g .twister .mt) e)
+    go false k = rw k (refl, refl)

@@ -38,16 +38,14 @@ module _ (s t : List ℕ) (k : kindIn s ≤ 3) (u s′ : List ℕ) where
       → found ≡ shuffled (wordsOf (generatorIn s t)) list budget → s′ ≡ stateAfter (a .refusal) (a .next) s
       → VrdShufflePromise s t list budget (number (a .value) (a .used) (a .refusal)) s′ u found
   list-shuffled list budget a found h q w =
-      settled s t (listed (number 0 0 refusal.kind) list)
-      (λ g. formed (λ (x : Number). listed x (shuffled (wordsOf g) list budget)) (drawnBy (λ w. shuffleBy w (length list) budget) g))
-      k (a .refusal) (listed (number (a .value) (a .used) (a .refusal)) found) (a .next) u s′ w
+      settled s t _ _ k (a .refusal) (listed (number (a .value) (a .used) (a .refusal)) found) (a .next) u s′ w
       (ap₂ (λ (x : Answer) (l : List ℕ). formed (λ (y : Number). listed y l) (numberOf x)) h q)
 
-  pub bytes-filled : (dest bytes : List ℕ) (e : Engine) → FilledFrom (generatorIn s t) (length dest) bytes (joinedWith e u) → s′ ≡ stateWith e s
-      → VrdFillBytesPromise s t dest refusal.answered s′ u bytes
+  pub bytes-filled : (dest bytes : List ℕ) (e : Engine) → FilledFrom (generatorIn s t) (length dest) bytes (joinedWith e u)
+      → s′ ≡ stateWith e s → VrdFillBytesPromise s t dest refusal.answered s′ u bytes
   bytes-filled dest bytes e h w =
-      wrote s t (listed refusal.kind dest) (λ g. gives (listed refusal.answered (filledBytes g (length dest))) (later (fillWords g (length dest)) g))
-      k (listed refusal.answered bytes) e u s′ w (ap₂ (λ (b : List ℕ) (g : Random). gives (listed refusal.answered b) g) (h .content) (h .after))
+      wrote s t _ _ k (listed refusal.answered bytes) e u s′ w
+      (ap₂ (λ (b : List ℕ) (g : Random). gives (listed refusal.answered b) g) (h .content) (h .after))
 
 -- ---- makings of bytes
 

@@ -14,6 +14,7 @@ use Rattle.vrd_ffi.specs.Handed.{integer}
 abbrev pub counted : ℤ → Number → Integer
 counted min a = integer (cond (eqb (a .refusal) refusal.answered) (min +ℤ pos (a .value)) (pos 0)) (a .used) (a .refusal)
 
+-- modulo 2^32, and read back as signed
 unfoldable pub countedModulo : ℤ → Number → Integer
 countedModulo min a =
     integer (cond (eqb (a .refusal) refusal.answered) (wrappedSum 32 min (a .value % 2 ^ 32)) (pos 0)) (a .used) (a .refusal)

@@ -17,7 +17,8 @@ use Rattle.words.specs.Refusal as refusal
 use Rattle.signed.specs.GapLaws.{gap-fits}
 use Rattle.signed.specs.Signed.{wrappedSum, gap}
 use Rattle.signed.specs.SignedLaws.{sum-exact}
-use Rattle.random.specs.Generator.{wordsOf}
+use Rattle.random.specs.Generator.{later, wordsOf}
+use Rattle.random.specs.GeneratorLaws.{later-none}
 use Rattle.random.specs.declared.backend.Random.{Random}
 use Rattle.bounded.specs.Answers as library
 use Rattle.bounded.specs.Budgeted.{raised-answered, raised-refused}
@@ -34,7 +35,7 @@ use Rattle.lists.specs.Limit.{listLimit}
 use Rattle.lists.specs.Slicing as slicing
 use Rattle.vrd_ffi.specs.declared.answers.Number.{Number}
 use Rattle.vrd_ffi.specs.Answers.{Reply, told, formed, atBoundary}
-use Rattle.vrd_ffi.specs.AnswersLaws.{same-reply, told-formed}
+use Rattle.vrd_ffi.specs.AnswersLaws.{same-reply, told-formed, refused-keeps}
 use Rattle.vrd_ffi.specs.Choosing.{entryOf}
 use Rattle.vrd_ffi.specs.Counting.{counted, countedModulo}
 use Rattle.vrd_ffi.specs.Handed.{number, integer, choice, numberOf, integerOf, choiceOf, startOf, drawnBy, countedBy}
@@ -50,6 +51,15 @@ raised-zero o = go (eqb (o .refusal) 0) refl
         let z = eqb-true (o .refusal) 0 e in
         raised-answered 0 o z ∙ rw zero-add (ap (λ (n : ℕ). record { refusal = n; value = o .value; used = o .used }) (sym z))
     go false e = raised-refused 0 o (eqb-false (o .refusal) 0 e)
+
+-- a draw that is refused has used no word, so that it leaves the very lists that came
+pub refused-draw-keeps : (s t : List ℕ) (by : Words → Outcome) → (by (wordsOf (generatorIn s t)) .refusal ≡ refusal.answered → ⊥)
+    → by (wordsOf (generatorIn s t)) .used ≡ 0
+    → (atBoundary s t (number 0 0 refusal.kind) (drawnBy by) .state ≡ s) × (atBoundary s t (number 0 0 refusal.kind) (drawnBy by) .table ≡ t)
+unfolding library.answered
+refused-draw-keeps s t by h unused =
+    let g = generatorIn s t in
+    refused-keeps s t (number 0 0 refusal.kind) (drawnBy by) h (ap (λ (n : ℕ). later n g) unused ∙ later-none g)
 
 -- the draw that every call here stands on
 abbrev one : (r budget least : ℕ) → Words → Outcome
@@ -70,7 +80,8 @@ module _ (s t : List ℕ) (budget p : ℕ) {s′ u : List ℕ} where
 
   pub range-drawn-by : (min max : ℕ) → min < max → Draws s t (max - min) budget min p s′ u
       → told (unpacked p) s′ u ≡ atBoundary s t (number 0 0 refusal.kind) (drawnBy (λ w. rangeBy w min max budget))
-  range-drawn-by min max h d = drawn-as (max - min) min d (λ w. rangeBy w min max budget) (sym (range-drawn (wordsOf (generatorIn s t)) min max budget h))
+  range-drawn-by min max h d =
+      drawn-as (max - min) min d (λ w. rangeBy w min max budget) (sym (range-drawn (wordsOf (generatorIn s t)) min max budget h))
 
   pub char-drawn : Draws s t 26 budget 97 p s′ u
       → told (unpacked p) s′ u ≡ atBoundary s t (number 0 0 refusal.kind) (drawnBy (λ w. charBy w budget))
@@ -88,15 +99,18 @@ module _ (s t : List ℕ) (budget p : ℕ) {s′ u : List ℕ} where
   -- ---- of a list
 
   pub start-drawn : (n window : ℕ) → n ≤ listLimit → 0 < window → window ≤ n → Draws s t (n - window + 1) budget 0 p s′ u
-      → told (unpacked p) s′ u ≡ atBoundary s t (number 0 0 refusal.kind) (λ g. startOf (slicing.startedBy g (slicing.sliceBy (wordsOf g) n window budget)))
+      → told (unpacked p) s′ u
+      ≡ atBoundary s t (number 0 0 refusal.kind) (λ g. startOf (slicing.startedBy g (slicing.sliceBy (wordsOf g) n window budget)))
   unfolding slicing.startedBy slicing.sliceBy library.answered
   start-drawn n window h some room d =
       let w = wordsOf (generatorIn s t) in
       let allowed = checks.slice-only n window (checks.allowed (omega arith) h some room) in
       let passes = unless-passed (sliceRefusal n window) (boundedBy w (n - window + 1) budget) allowed in
-      drawn-as (n - window + 1) 0 d (λ w. slicing.sliceBy w n window budget) (raised-zero (boundedBy w (n - window + 1) budget) ∙ sym passes)
+      drawn-as (n - window + 1) 0 d (λ w. slicing.sliceBy w n window budget)
+      (raised-zero (boundedBy w (n - window + 1) budget) ∙ sym passes)
 
-  pub choice-drawn : (list : List ℕ) → 0 < length list → length list ≤ listLimit → Draws s t (length list) budget 0 p s′ u → (a : Number) → a ≡ unpacked p
+  pub choice-drawn : (list : List ℕ) → 0 < length list → length list ≤ listLimit → Draws s t (length list) budget 0 p s′ u
+      → (a : Number) → a ≡ unpacked p
       → told (entryOf list a) s′ u
       ≡ atBoundary s t (choice 0 0 0 refusal.kind) (λ g. choiceOf (choosing.chosenBy g (choosing.chooseBy (wordsOf g) list budget)))
   unfolding choosing.chosenBy choosing.chooseBy choosing.entryOf choosing.placeBy library.answered
@@ -108,8 +122,7 @@ module _ (s t : List ℕ) (budget p : ℕ) {s′ u : List ℕ} where
       let same : one n budget 0 w ≡ choosing.placeBy w n budget = raised-zero (boundedBy w n budget) ∙ sym passes in
       ap (λ (x : Number). told (entryOf list x) s′ u) e
       ∙ told-formed s t (number 0 0 refusal.kind) (drawnBy (one n budget 0)) (entryOf list) d
-      ∙ same-reply s t (choice 0 0 0 refusal.kind) (λ g. formed (entryOf list) (drawnBy (one n budget 0) g))
-      (λ g. choiceOf (choosing.chosenBy g (choosing.chooseBy (wordsOf g) list budget)))
+      ∙ same-reply s t _ (λ g. formed (entryOf list) (drawnBy (one n budget 0) g)) _
       (ap (λ (o : Outcome). formed (entryOf list) (numberOf (library.answered g o))) same)
 
 -- where it is answered, the number drawn is below n
@@ -119,8 +132,8 @@ number-below n p a e below z = let l = below (ap (λ (x : Number). x .refusal) (
 -- ---- signed
 
 -- the sum modulo 2^32 is exact where what is added is at most the gap
-counted-exact : {min max : ℤ} (a : Number) → SFits w32 min → SFits w32 max → (a .refusal ≡ 0 → (a .value < 2 ^ 32) × (a .value ≤ gap min max))
-    → countedModulo min a ≡ counted min a
+counted-exact : {min max : ℤ} (a : Number) → SFits w32 min → SFits w32 max
+    → (a .refusal ≡ 0 → (a .value < 2 ^ 32) × (a .value ≤ gap min max)) → countedModulo min a ≡ counted min a
 unfolding countedModulo
 counted-exact {min} {max} a f f′ small = go (eqb (a .refusal) 0) refl
   where
@@ -133,8 +146,10 @@ counted-exact {min} {max} a f f′ small = go (eqb (a .refusal) 0) refl
     go false e = rw e
 
 module _ (s t : List ℕ) {min max : ℤ} (f : SFits w32 min) (f′ : SFits w32 max) (last budget p : ℕ) where
-  pub integer-drawn : ltZ max min ≡ false → last ≡ gap min max → 0 < last → last < 2 ^ 32 → {s′ u : List ℕ} → Draws s t (last + 1) budget 0 p s′ u → Below (last + 1) 0 p
-      → told (countedModulo min (unpacked p)) s′ u ≡ atBoundary s t (integer (pos 0) 0 refusal.kind) (countedBy (λ w. intBy w min max budget))
+  pub integer-drawn : ltZ max min ≡ false → last ≡ gap min max → 0 < last → last < 2 ^ 32 → {s′ u : List ℕ}
+      → Draws s t (last + 1) budget 0 p s′ u → Below (last + 1) 0 p
+      → told (countedModulo min (unpacked p)) s′ u
+      ≡ atBoundary s t (integer (pos 0) 0 refusal.kind) (countedBy (λ w. intBy w min max budget))
   unfolding intAnswered countedFrom library.answered
   integer-drawn order far wide small {s′} {u} d below =
       let g = generatorIn s t in
@@ -143,5 +158,6 @@ module _ (s t : List ℕ) {min max : ℤ} (f : SFits w32 min) (f′ : SFits w32 
       raised-zero (boundedBy w (last + 1) budget) ∙ sym (span-drawn w last budget wide) ∙ ap (λ (n : ℕ). spanBy w n budget) far in
       ap (λ (a : _). told a s′ u) (counted-exact (unpacked p) f f′ (λ z. let b = below z in (omega arith, rw (sym far) (omega arith))))
       ∙ told-formed s t (number 0 0 refusal.kind) (drawnBy (one (last + 1) budget 0)) (counted min) d
-      ∙ same-reply s t (integer (pos 0) 0 refusal.kind) (λ g. formed (counted min) (drawnBy (one (last + 1) budget 0) g)) (countedBy (λ w. intBy w min max budget))
-      (ap (λ (o : Outcome). formed (counted min) (numberOf (library.answered g o))) same ∙ ap (λ (o : _). integerOf (intAnswered g o)) (sym (int-drawn w min max budget order)))
+      ∙ same-reply s t _ (λ g. formed (counted min) (drawnBy (one (last + 1) budget 0) g)) _
+      (ap (λ (o : Outcome). formed (counted min) (numberOf (library.answered g o))) same
+      ∙ ap (λ (o : _). integerOf (intAnswered g o)) (sym (int-drawn w min max budget order)))

@@ -14,6 +14,7 @@ use Rattle.vrd_ffi.specs.State.{kindIn, backendIn, generatorIn}
 abbrev pub drew32 : Word32 → Reply ℕ
 drew32 d = gives (d .word) (d .next)
 
+-- the same of 64 bits
 abbrev pub drew64 : Word64 → Reply ℕ
 drew64 d = gives (d .word) (d .next)
 
@@ -21,6 +22,7 @@ drew64 d = gives (d .word) (d .next)
 abbrev pub Moves32 : List ℕ → List ℕ → ℕ → List ℕ → List ℕ → Type 0
 Moves32 s t word s′ t′ = told word s′ t′ ≡ written s (drew32 (randOf (generatorIn s t)))
 
+-- the next word of 64 bits
 abbrev pub Moves64 : List ℕ → List ℕ → ℕ → List ℕ → List ℕ → Type 0
 Moves64 s t word s′ t′ = told word s′ t′ ≡ written s (drew64 (u64Of (generatorIn s t)))
 
@@ -42,6 +44,7 @@ pub record Settled (word r q : ℕ) : Type 0 where
   pub drawn : q ≡ quotient r word
   pub small : q < r
 
+-- q is what the word settled, or 2^32
 abbrev pub Settles : ℕ → ℕ → ℕ → Type 0
 Settles word r q = q < 2 ^ 32 → Settled word r q
 
@@ -51,6 +54,7 @@ pub record Hit (s t : List ℕ) (r q : ℕ) (s′ : List ℕ) : Type 0 where
   pub moved : Moves32 s t (wordOf (generatorIn s t)) s′ t
   pub settled : Settled (wordOf (generatorIn s t)) r q
 
+-- a hit, or nothing changed
 pub record Quick (s t : List ℕ) (r q : ℕ) (s′ : List ℕ) : Type 0 where
   pub hit : q < 2 ^ 32 → Hit s t r q s′
   pub miss : 2 ^ 32 ≤ q → s′ ≡ s

@@ -30,7 +30,8 @@ use Rattle.random.specs.Generator.{step, later, wordOf, word64Of, steps64, rand
 use Rattle.random.specs.GeneratorLaws.{rand-is-high-half}
 use Rattle.vrd_ffi.specs.Answers.{Told, told, written}
 use Rattle.vrd_ffi.specs.Moves.{drew32, drew64, stepsIn, Moves32, Moves64, IsWide, Settled, Settles, Hit, Quick}
-use Rattle.vrd_ffi.specs.State.{kindIn, positionIn, xoshiroIn, pcg32In, pcg64In, backendIn, generatorIn, smallState, positionState, six, stateWith, stateAfter}
+use Rattle.vrd_ffi.specs.State.{kindIn, positionIn, xoshiroIn, pcg32In, pcg64In, backendIn, generatorIn}
+use Rattle.vrd_ffi.specs.State.{six, smallState, positionState, stateWith, stateAfter}
 
 -- ---- each kind's own words: `s′` is the state after the write
 
@@ -50,14 +51,16 @@ module _ (s t : List ℕ) (s′ : List ℕ) where
   unfolding randOf wordOf step backendIn stateWith stateAfter
   pcg64-moved k d h w = rw (w, k, h)
 
-  pub twister-moved : kindIn s ≡ 1 → (d : Step) (u : List ℕ) → twister.stepped d u ≡ twister.drawnIn t (positionIn s) → s′ ≡ positionState s (d .mti)
-      → Moves32 s t (d .word) s′ u
+  pub twister-moved : kindIn s ≡ 1 → (d : Step) (u : List ℕ) → twister.stepped d u ≡ twister.drawnIn t (positionIn s)
+      → s′ ≡ positionState s (d .mti) → Moves32 s t (d .word) s′ u
   unfolding randOf wordOf step backendIn stateWith stateAfter
   twister-moved k d u h w =
-      rw (w, k) (ap (λ (x : Drawn32). told (x .word) (six 1 (x .next .mti) (getD s 2 0) (getD s 3 0) (getD s 4 0) (getD s 5 0)) (x .next .mt)) h)
+      rw (w, k)
+      (ap (λ (x : Drawn32). told (x .word) (six 1 (x .next .mti) (getD s 2 0) (getD s 3 0) (getD s 4 0) (getD s 5 0)) (x .next .mt)) h)
 
   -- the twister's word where its table is not renewed for it
-  pub twister-ready : kindIn s ≡ 1 → (m : ℕ) → m ≡ positionIn s → m < 624 → (w : ℕ) → w ≡ temper (getD t m 0) → s′ ≡ positionState s (m + 1) → Moves32 s t w s′ t
+  pub twister-ready : kindIn s ≡ 1 → (m : ℕ) → m ≡ positionIn s → m < 624 → (w : ℕ) → w ≡ temper (getD t m 0)
+      → s′ ≡ positionState s (m + 1) → Moves32 s t w s′ t
   twister-ready k m at low w h e =
       twister-moved k (record { word = w; mti = m + 1 }) t
       (ap (λ (n : ℕ). twister.stepped (record { word = n; mti = m + 1 }) t) h ∙ sym (in-low t m low) ∙ ap (twister.drawnIn t) at) e
@@ -79,11 +82,12 @@ module _ (s t : List ℕ) (s′ : List ℕ) where
   unfolding u64Of word64Of later step backendIn stateWith stateAfter
   pcg64-moved64 k d h w = rw (w, k, h)
 
-  pub twister-moved64 : kindIn s ≡ 1 → (d : Step64) (u : List ℕ) → twister.stepped64 d u ≡ twister.drawn64In t (positionIn s) → s′ ≡ positionState s (d .mti)
-      → Moves64 s t (d .word) s′ u
+  pub twister-moved64 : kindIn s ≡ 1 → (d : Step64) (u : List ℕ) → twister.stepped64 d u ≡ twister.drawn64In t (positionIn s)
+      → s′ ≡ positionState s (d .mti) → Moves64 s t (d .word) s′ u
   unfolding u64Of word64Of later step backendIn stateWith stateAfter twister.drawn64
   twister-moved64 k d u h w =
-      rw (w, k) (ap (λ (x : Drawn64). told (x .word) (six 1 (x .next .mti) (getD s 2 0) (getD s 3 0) (getD s 4 0) (getD s 5 0)) (x .next .mt)) h)
+      rw (w, k)
+      (ap (λ (x : Drawn64). told (x .word) (six 1 (x .next .mti) (getD s 2 0) (getD s 3 0) (getD s 4 0) (getD s 5 0)) (x .next .mt)) h)
 
 -- ---- kinds 0 and 3: `rand` is the high half of the word of 64 bits
 

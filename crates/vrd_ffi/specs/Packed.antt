@@ -1,5 +1,5 @@
--- A single draw's answer in one number: the value alone where one word settled it, as it nearly always does; otherwise, from 2^32 on, the value with
--- the words used in front, or, with 1 in front, the number of the refusal.
+-- A single draw's answer in one number: the value alone where one word settled it, as it nearly always does; otherwise, from 2^32 on, the
+-- value with the words used in front, or, with 1 in front, the number of the refusal.
 use Prim.Native.Nat.{ℕ, _+_, _*_, _/_, _%_, _^_, _≤_, _<_}
 use mathlib.Core.Bool.{cond}
 use mathlib.Core.List.{List}

@@ -10,7 +10,7 @@ use mathlib.Core.Path.{_≡_, refl, sym, _∙_, ap}
 use Rattle.words.specs.AnswerIsFirst.{first-is-answer}
 use Rattle.words.specs.Draw.{Words, Outcome, quotient, refused, boundedBy}
 use Rattle.words.specs.Draw as draw
-use Rattle.words.specs.GoodWord.{Passes, good-passes}
+use Rattle.words.specs.GoodWord.{Passes, FirstGood, good-passes}
 use Rattle.words.specs.OneOutcome.{Bounded, zero-range, answers, out-of-budget, bounded-is}
 use Rattle.words.specs.Refusal as refusal
 use Rattle.random.specs.Generator.{step, later, wordOf, wordsOf, randOf}
@@ -115,7 +115,8 @@ module _ (s t : List ℕ) (r least : ℕ) (room : least + r ≤ 2 ^ 32) where
   quick-below q s′ h z = rw (says-one (least + q) (fits q s′ h)) (omega (arith, h .settled .small))
 
 module _ (s t : List ℕ) (r budget least : ℕ) (room : least + r ≤ 2 ^ 32) where
-  pub library-draws : kindIn s ≤ 3 → (a : EngineAnswer) (u s′ : List ℕ) → library.joinedAnswer a u ≡ library.answered (generatorIn s t) (boundedBy (wordsOf (generatorIn s t)) r budget)
+  pub library-draws : kindIn s ≤ 3 → (a : EngineAnswer) (u s′ : List ℕ)
+      → library.joinedAnswer a u ≡ library.answered (generatorIn s t) (boundedBy (wordsOf (generatorIn s t)) r budget)
       → (a .refusal ≡ 0 → a .value < r) → s′ ≡ stateAfter (a .refusal) (a .next) s
       → Draws s t r budget least (packed (a .refusal) (a .value) (a .used) least) s′ u
   unfolding library.answered
@@ -130,7 +131,8 @@ module _ (s t : List ℕ) (r budget least : ℕ) (room : least + r ≤ 2 ^ 32) w
       settled s t (number 0 0 refusal.kind) (drawnBy (λ w. raised least (boundedBy w r budget))) k (a .refusal) _ (a .next) u s′ w
       (let (same, used) = raised-keeps least o in rw (n, v, m, next, whole, same, used))
 
-  pub library-below : (a : EngineAnswer) (u : List ℕ) → library.joinedAnswer a u ≡ library.answered (generatorIn s t) (boundedBy (wordsOf (generatorIn s t)) r budget)
+  pub library-below : (a : EngineAnswer) (u : List ℕ)
+      → library.joinedAnswer a u ≡ library.answered (generatorIn s t) (boundedBy (wordsOf (generatorIn s t)) r budget)
       → (a .refusal ≡ 0 → a .value < r) → Below r least (packed (a .refusal) (a .value) (a .used) least)
   unfolding library.answered
   library-below a u h small =
@@ -143,12 +145,14 @@ module _ (s t : List ℕ) (r budget least : ℕ) (room : least + r ≤ 2 ^ 32) w
       λ z. rw (n, v, m, whole) (raised-below least r o (λ e. rw (sym v) (small (n ∙ e))) (rw (n, v, m, whole) at z))
 
   -- the first word, where it settles the draw
-  settles-draw : (q : ℕ) (s′ : List ℕ) → 0 < budget → Hit s t r q s′ → raised least (boundedBy (wordsOf (generatorIn s t)) r budget) ≡ draw.gives (least + q) 1
+  settles-draw : (q : ℕ) (s′ : List ℕ) → 0 < budget → Hit s t r q s′
+      → raised least (boundedBy (wordsOf (generatorIn s t)) r budget) ≡ draw.gives (least + q) 1
   settles-draw q s′ some h =
       let g = generatorIn s t in
       let first : wordsOf g 0 ≡ wordOf g = sym (word-at 0 g) ∙ ap wordOf (later-none g) in
       let passes : Passes r (wordsOf g 0) = rw first (good-passes r (wordOf g) (h .settled .fine)) in
-      let found = first-is-answer (wordsOf g) r budget 0 (record { among = some; passes = passes; none-before = λ j l. absurd (omega arith) }) in
+      let none : FirstGood (wordsOf g) r budget 0 = record { among = some; passes = passes; none-before = λ j l. absurd (omega arith) } in
+      let found = first-is-answer (wordsOf g) r budget 0 none in
       let drawn : quotient r (wordsOf g 0) ≡ q = ap (quotient r) first ∙ sym (h .settled .drawn) in
       ap (raised least) (found ∙ ap (λ (v : ℕ). draw.gives v 1) drawn) ∙ raised-answered least (draw.gives q 1) refl
 

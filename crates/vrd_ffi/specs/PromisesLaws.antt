@@ -21,11 +21,13 @@ use Rattle.vrd_ffi.specs.AnswersLaws.{told-apart}
 use Rattle.vrd_ffi.specs.Handed.{Listed, listed, Halves, Equal}
 use Rattle.vrd_ffi.specs.Promises.{EngineInPromise, WritePromise}
 use Rattle.vrd_ffi.specs.Promises.{VrdRandPromise, VrdU64Promise, VrdI64Promise, VrdPseudoPromise}
-use Rattle.vrd_ffi.specs.Promises.{VrdBoundedPromise, VrdRandomRangePromise, VrdCharPromise, VrdUintPromise, VrdIntPromise, VrdRangePromise}
+use Rattle.vrd_ffi.specs.Promises.{VrdBoundedPromise, VrdRandomRangePromise, VrdCharPromise}
+use Rattle.vrd_ffi.specs.Promises.{VrdUintPromise, VrdIntPromise, VrdRangePromise}
 use Rattle.vrd_ffi.specs.Promises.{VrdChoosePromise, VrdRandSlicePromise, VrdShufflePromise, VrdFillBytesPromise, VrdListLimitPromise}
 use Rattle.vrd_ffi.specs.Promises.{VrdFloatPromise, VrdDoublePromise, VrdBoolPromise, VrdUniformPromise}
-use Rattle.vrd_ffi.specs.Promises.{VrdMakePromise, VrdXoshiroWithSeedPromise, VrdMersenneTwisterWithSeedPromise, VrdPcg32WithSeedPromise}
-use Rattle.vrd_ffi.specs.Promises.{VrdPcg64WithSeedPromise, VrdPcg32WithStreamPromise, VrdPcg64WithStreamPromise}
+use Rattle.vrd_ffi.specs.Promises.{VrdMakePromise, VrdXoshiroWithSeedPromise, VrdMersenneTwisterWithSeedPromise}
+use Rattle.vrd_ffi.specs.Promises.{VrdPcg32WithSeedPromise, VrdPcg64WithSeedPromise}
+use Rattle.vrd_ffi.specs.Promises.{VrdPcg32WithStreamPromise, VrdPcg64WithStreamPromise}
 use Rattle.vrd_ffi.specs.Promises.{VrdSeedPromise, VrdTwistPromise, VrdSetMtiPromise, VrdMtiPromise, VrdSplitPromise, VrdSamePromise}
 
 pub one-engine-in : (s : List ℕ) {a b : Engine} → EngineInPromise s a → EngineInPromise s b → a ≡ b
@@ -49,28 +51,36 @@ module _ (s t : List ℕ) {s₁ s₂ t₁ t₂ : List ℕ} where
   pub one-vrd-pseudo : {a b : Word} → VrdPseudoPromise s t a s₁ t₁ → VrdPseudoPromise s t b s₂ t₂ → (a ≡ b) × (s₁ ≡ s₂) × (t₁ ≡ t₂)
   one-vrd-pseudo p q = told-apart (p ∙ sym q)
 
-  pub one-vrd-bounded : (r budget : ℕ) {a b : Number} → VrdBoundedPromise s t r budget a s₁ t₁ → VrdBoundedPromise s t r budget b s₂ t₂ → (a ≡ b) × (s₁ ≡ s₂) × (t₁ ≡ t₂)
+  pub one-vrd-bounded : (r budget : ℕ) {a b : Number} → VrdBoundedPromise s t r budget a s₁ t₁ → VrdBoundedPromise s t r budget b s₂ t₂
+      → (a ≡ b) × (s₁ ≡ s₂) × (t₁ ≡ t₂)
   one-vrd-bounded r budget p q = told-apart (p ∙ sym q)
 
-  pub one-vrd-random-range : (min max budget : ℕ) {a b : Number} → VrdRandomRangePromise s t min max budget a s₁ t₁ → VrdRandomRangePromise s t min max budget b s₂ t₂ → (a ≡ b) × (s₁ ≡ s₂) × (t₁ ≡ t₂)
+  pub one-vrd-random-range : (min max budget : ℕ) {a b : Number} → VrdRandomRangePromise s t min max budget a s₁ t₁
+      → VrdRandomRangePromise s t min max budget b s₂ t₂ → (a ≡ b) × (s₁ ≡ s₂) × (t₁ ≡ t₂)
   one-vrd-random-range min max budget p q = told-apart (p ∙ sym q)
 
-  pub one-vrd-char : (budget : ℕ) {a b : Number} → VrdCharPromise s t budget a s₁ t₁ → VrdCharPromise s t budget b s₂ t₂ → (a ≡ b) × (s₁ ≡ s₂) × (t₁ ≡ t₂)
+  pub one-vrd-char : (budget : ℕ) {a b : Number} → VrdCharPromise s t budget a s₁ t₁ → VrdCharPromise s t budget b s₂ t₂
+      → (a ≡ b) × (s₁ ≡ s₂) × (t₁ ≡ t₂)
   one-vrd-char budget p q = told-apart (p ∙ sym q)
 
-  pub one-vrd-uint : (min max budget : ℕ) {a b : Number} → VrdUintPromise s t min max budget a s₁ t₁ → VrdUintPromise s t min max budget b s₂ t₂ → (a ≡ b) × (s₁ ≡ s₂) × (t₁ ≡ t₂)
+  pub one-vrd-uint : (min max budget : ℕ) {a b : Number} → VrdUintPromise s t min max budget a s₁ t₁
+      → VrdUintPromise s t min max budget b s₂ t₂ → (a ≡ b) × (s₁ ≡ s₂) × (t₁ ≡ t₂)
   one-vrd-uint min max budget p q = told-apart (p ∙ sym q)
 
-  pub one-vrd-int : (min max : ℤ) (budget : ℕ) {a b : Integer} → VrdIntPromise s t min max budget a s₁ t₁ → VrdIntPromise s t min max budget b s₂ t₂ → (a ≡ b) × (s₁ ≡ s₂) × (t₁ ≡ t₂)
+  pub one-vrd-int : (min max : ℤ) (budget : ℕ) {a b : Integer} → VrdIntPromise s t min max budget a s₁ t₁
+      → VrdIntPromise s t min max budget b s₂ t₂ → (a ≡ b) × (s₁ ≡ s₂) × (t₁ ≡ t₂)
   one-vrd-int min max budget p q = told-apart (p ∙ sym q)
 
-  pub one-vrd-range : (min max : ℤ) (budget : ℕ) {a b : Integer} → VrdRangePromise s t min max budget a s₁ t₁ → VrdRangePromise s t min max budget b s₂ t₂ → (a ≡ b) × (s₁ ≡ s₂) × (t₁ ≡ t₂)
+  pub one-vrd-range : (min max : ℤ) (budget : ℕ) {a b : Integer} → VrdRangePromise s t min max budget a s₁ t₁
+      → VrdRangePromise s t min max budget b s₂ t₂ → (a ≡ b) × (s₁ ≡ s₂) × (t₁ ≡ t₂)
   one-vrd-range min max budget p q = told-apart (p ∙ sym q)
 
-  pub one-vrd-choose : (list : List ℕ) (budget : ℕ) {a b : Choice} → VrdChoosePromise s t list budget a s₁ t₁ → VrdChoosePromise s t list budget b s₂ t₂ → (a ≡ b) × (s₁ ≡ s₂) × (t₁ ≡ t₂)
+  pub one-vrd-choose : (list : List ℕ) (budget : ℕ) {a b : Choice} → VrdChoosePromise s t list budget a s₁ t₁
+      → VrdChoosePromise s t list budget b s₂ t₂ → (a ≡ b) × (s₁ ≡ s₂) × (t₁ ≡ t₂)
   one-vrd-choose list budget p q = told-apart (p ∙ sym q)
 
-  pub one-vrd-rand-slice : (list : List ℕ) (window budget : ℕ) {a b : Number} → VrdRandSlicePromise s t list window budget a s₁ t₁ → VrdRandSlicePromise s t list window budget b s₂ t₂ → (a ≡ b) × (s₁ ≡ s₂) × (t₁ ≡ t₂)
+  pub one-vrd-rand-slice : (list : List ℕ) (window budget : ℕ) {a b : Number} → VrdRandSlicePromise s t list window budget a s₁ t₁
+      → VrdRandSlicePromise s t list window budget b s₂ t₂ → (a ≡ b) × (s₁ ≡ s₂) × (t₁ ≡ t₂)
   one-vrd-rand-slice list window budget p q = told-apart (p ∙ sym q)
 
   pub one-vrd-float : {a b : Number32} → VrdFloatPromise s t a s₁ t₁ → VrdFloatPromise s t b s₂ t₂ → (a ≡ b) × (s₁ ≡ s₂) × (t₁ ≡ t₂)
@@ -79,16 +89,20 @@ module _ (s t : List ℕ) {s₁ s₂ t₁ t₂ : List ℕ} where
   pub one-vrd-double : {a b : Number64} → VrdDoublePromise s t a s₁ t₁ → VrdDoublePromise s t b s₂ t₂ → (a ≡ b) × (s₁ ≡ s₂) × (t₁ ≡ t₂)
   one-vrd-double p q = told-apart (p ∙ sym q)
 
-  pub one-vrd-bool : (chance : Float) {a b : Coin} → VrdBoolPromise s t chance a s₁ t₁ → VrdBoolPromise s t chance b s₂ t₂ → (a ≡ b) × (s₁ ≡ s₂) × (t₁ ≡ t₂)
+  pub one-vrd-bool : (chance : Float) {a b : Coin} → VrdBoolPromise s t chance a s₁ t₁ → VrdBoolPromise s t chance b s₂ t₂
+      → (a ≡ b) × (s₁ ≡ s₂) × (t₁ ≡ t₂)
   one-vrd-bool chance p q = told-apart (p ∙ sym q)
 
-  pub one-vrd-uniform : (low high : Float) {a b : Number64} → VrdUniformPromise s t low high a s₁ t₁ → VrdUniformPromise s t low high b s₂ t₂ → (a ≡ b) × (s₁ ≡ s₂) × (t₁ ≡ t₂)
+  pub one-vrd-uniform : (low high : Float) {a b : Number64} → VrdUniformPromise s t low high a s₁ t₁
+      → VrdUniformPromise s t low high b s₂ t₂ → (a ≡ b) × (s₁ ≡ s₂) × (t₁ ≡ t₂)
   one-vrd-uniform low high p q = told-apart (p ∙ sym q)
 
-  pub one-vrd-make : (kind : ℕ) (seed : List ℕ) {a b : ℕ} → VrdMakePromise s t kind seed a s₁ t₁ → VrdMakePromise s t kind seed b s₂ t₂ → (a ≡ b) × (s₁ ≡ s₂) × (t₁ ≡ t₂)
+  pub one-vrd-make : (kind : ℕ) (seed : List ℕ) {a b : ℕ} → VrdMakePromise s t kind seed a s₁ t₁ → VrdMakePromise s t kind seed b s₂ t₂
+      → (a ≡ b) × (s₁ ≡ s₂) × (t₁ ≡ t₂)
   one-vrd-make kind seed p q = told-apart (p ∙ sym q)
 
-  pub one-vrd-seed : (seed : ℕ) {a b : ℕ} → VrdSeedPromise s t seed a s₁ t₁ → VrdSeedPromise s t seed b s₂ t₂ → (a ≡ b) × (s₁ ≡ s₂) × (t₁ ≡ t₂)
+  pub one-vrd-seed : (seed : ℕ) {a b : ℕ} → VrdSeedPromise s t seed a s₁ t₁ → VrdSeedPromise s t seed b s₂ t₂
+      → (a ≡ b) × (s₁ ≡ s₂) × (t₁ ≡ t₂)
   one-vrd-seed seed p q = told-apart (p ∙ sym q)
 
   pub one-vrd-twist : {a b : ℕ} → VrdTwistPromise s t a s₁ t₁ → VrdTwistPromise s t b s₂ t₂ → (a ≡ b) × (s₁ ≡ s₂) × (t₁ ≡ t₂)
@@ -105,7 +119,8 @@ module _ (s t : List ℕ) {s₁ s₂ t₁ t₂ : List ℕ} where
   )
 
   pub one-vrd-shuffle : (list : List ℕ) (budget : ℕ) {a b : Number} {l m : List ℕ}
-      → VrdShufflePromise s t list budget a s₁ t₁ l → VrdShufflePromise s t list budget b s₂ t₂ m → (a ≡ b) × (l ≡ m) × (s₁ ≡ s₂) × (t₁ ≡ t₂)
+      → VrdShufflePromise s t list budget a s₁ t₁ l → VrdShufflePromise s t list budget b s₂ t₂ m
+      → (a ≡ b) × (l ≡ m) × (s₁ ≡ s₂) × (t₁ ≡ t₂)
   one-vrd-shuffle list budget p q = listed-apart (p ∙ sym q)
 
   pub one-vrd-fill-bytes : (dest : List ℕ) {a b : ℕ} {l m : List ℕ}
@@ -131,10 +146,12 @@ module _ {s₁ s₂ : List ℕ} where
   pub one-vrd-pcg64-with-seed : (seed : Wide) → VrdPcg64WithSeedPromise seed s₁ → VrdPcg64WithSeedPromise seed s₂ → s₁ ≡ s₂
   one-vrd-pcg64-with-seed seed p q = p ∙ sym q
 
-  pub one-vrd-pcg32-with-stream : (seed stream : ℕ) → VrdPcg32WithStreamPromise seed stream s₁ → VrdPcg32WithStreamPromise seed stream s₂ → s₁ ≡ s₂
+  pub one-vrd-pcg32-with-stream : (seed stream : ℕ) → VrdPcg32WithStreamPromise seed stream s₁ → VrdPcg32WithStreamPromise seed stream s₂
+      → s₁ ≡ s₂
   one-vrd-pcg32-with-stream seed stream p q = p ∙ sym q
 
-  pub one-vrd-pcg64-with-stream : (seed stream : Wide) → VrdPcg64WithStreamPromise seed stream s₁ → VrdPcg64WithStreamPromise seed stream s₂ → s₁ ≡ s₂
+  pub one-vrd-pcg64-with-stream : (seed stream : Wide) → VrdPcg64WithStreamPromise seed stream s₁
+      → VrdPcg64WithStreamPromise seed stream s₂ → s₁ ≡ s₂
   one-vrd-pcg64-with-stream seed stream p q = p ∙ sym q
 
 -- ---- calls without a table

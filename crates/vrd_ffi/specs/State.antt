@@ -1,5 +1,5 @@
--- The lent state: kind, position, four small words. The generator that it stands for beside a table, and a generator written to it. What a kind does
--- not use stays as it came: the small words that it has not, and the position, of which the twister alone has use.
+-- The lent state: kind, position, four small words. The generator that it stands for beside a table, and a generator written to it. What a
+-- kind does not use stays as it came: the small words that it has not, and the position, of which the twister alone has use.
 use Prim.Native.Nat.{ℕ, _%_, _^_}
 use mathlib.Core.Bool.{cond}
 use mathlib.Core.List.{List, [], _∷_}
@@ -56,6 +56,7 @@ generatorIn s t = joinedWith (engineFrom s) t
 
 -- ---- a generator written to a state
 
+-- a state of six words
 abbrev pub six : (a b c d e f : ℕ) → List ℕ
 six a b c d e f = a ∷ b ∷ c ∷ d ∷ e ∷ f ∷ []
 
@@ -63,6 +64,7 @@ six a b c d e f = a ∷ b ∷ c ∷ d ∷ e ∷ f ∷ []
 abbrev pub smallState : List ℕ → (a b c d : ℕ) → List ℕ
 smallState s a b c d = six (getD s 0 0) (getD s 1 0) a b c d
 
+-- another position in a state
 abbrev pub positionState : List ℕ → ℕ → List ℕ
 positionState s p = six (getD s 0 0) p (getD s 2 0) (getD s 3 0) (getD s 4 0) (getD s 5 0)
 

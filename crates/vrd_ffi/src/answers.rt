@@ -1,5 +1,5 @@
-// What the exports hand back beside the state and the table that they leave. Refused, every part but the refusal is 0. The wide parts stand first,
-// and `used` with `refusal` in one word of 8 bytes: an answer is handed on by whole registers.
+// What the exports hand back beside the state and the table that they leave. Refused, every part but the refusal is 0. The wide parts
+// stand first, and `used` with `refusal` in one word of 8 bytes: an answer is handed on by whole registers.
 ghost use mathlib.Core.Path.{_≡_};
 ghost use Rattle.vrd_ffi.specs.Handed.{number};
 ghost use Rattle.vrd_ffi.specs.State.{stateAfter};
@@ -88,7 +88,8 @@ pub(crate) fn number_from(a: EngineAnswer, state: &mut [u64; 6]) -> Number
     }
 }
 
-// The same answer, field by field: an answer that a function leaves in memory is so kept apart from the common one, which stays in registers.
+// The same answer, field by field: an answer that a function leaves in memory is so kept apart from the common one, which stays in
+// registers.
 pub(crate) fn number_apart(a: Number) -> Number
     ensures { λ r. ⌜ r ≡ a ⌝ }
 {
@@ -99,6 +100,7 @@ pub(crate) fn number_apart(a: Number) -> Number
     }
 }
 
+// The same of a choice.
 pub(crate) fn choice_apart(a: Choice) -> Choice
     ensures { λ r. ⌜ r ≡ a ⌝ }
 {

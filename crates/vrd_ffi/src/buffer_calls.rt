@@ -14,7 +14,8 @@ pub extern "C" fn vrd_shuffle_in(
     list: &mut [u32],
     budget: u32,
 ) -> Number
-    ensures { λ a. ⌜ VrdShufflePromise (now (state .entry)) (now (table .entry)) (now (list .entry)) budget a (now (state .exit)) (now (table .exit)) (now (list .exit)) ⌝ }
+    ensures { λ a. ⌜ VrdShufflePromise (now (state .entry)) (now (table .entry)) (now (list .entry)) budget a
+        (now (state .exit)) (now (table .exit)) (now (list .exit)) ⌝ }
 {
     if state[0] > 3 {
         return Number {
@@ -34,7 +35,8 @@ pub extern "C" fn vrd_fill_bytes_in(
     table: &mut [u32; 624],
     dest: &mut [u8],
 ) -> u32
-    ensures { λ r. ⌜ VrdFillBytesPromise (now (state .entry)) (now (table .entry)) (now (dest .entry)) r (now (state .exit)) (now (table .exit)) (now (dest .exit)) ⌝ }
+    ensures { λ r. ⌜ VrdFillBytesPromise (now (state .entry)) (now (table .entry)) (now (dest .entry)) r
+        (now (state .exit)) (now (table .exit)) (now (dest .exit)) ⌝ }
 {
     if state[0] > 3 {
         return refusal::KIND;

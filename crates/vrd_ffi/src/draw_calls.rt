@@ -1,5 +1,5 @@
-// A number drawn within a budget of words: below a bound, between two ends, a letter. What a call does beside the one draw, its refusals too, is
-// left to the library's call, in a function of its own.
+// A number drawn within a budget of words: below a bound, between two ends, a letter. What a call does beside the one draw, its refusals
+// too, is left to the library's call, in a function of its own.
 ghost use Rattle.vrd_ffi.specs.Promises.{VrdBoundedPromise, VrdRandomRangePromise, VrdCharPromise};
 use crate::answers::Number;
 use crate::answers::number_from;
@@ -29,7 +29,8 @@ fn random_range_by_library(
     max: u32,
     budget: u32,
 ) -> Number
-    ensures { λ a. ⌜ VrdRandomRangePromise (now (state .entry)) (now (table .entry)) min max budget a (now (state .exit)) (now (table .exit)) ⌝ }
+    ensures { λ a. ⌜ VrdRandomRangePromise (now (state .entry)) (now (table .entry)) min max budget a
+        (now (state .exit)) (now (table .exit)) ⌝ }
 {
     if state[0] > 3 {
         return Number {
@@ -51,7 +52,8 @@ pub extern "C" fn vrd_random_range_in(
     max: u32,
     budget: u32,
 ) -> Number
-    ensures { λ a. ⌜ VrdRandomRangePromise (now (state .entry)) (now (table .entry)) min max budget a (now (state .exit)) (now (table .exit)) ⌝ }
+    ensures { λ a. ⌜ VrdRandomRangePromise (now (state .entry)) (now (table .entry)) min max budget a
+        (now (state .exit)) (now (table .exit)) ⌝ }
 {
     if max <= min {
         return random_range_by_library(state, table, min, max, budget);

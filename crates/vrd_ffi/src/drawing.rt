@@ -1,5 +1,6 @@
-// A single draw below r, with a number added to its value, its answer in one number, so that it comes back in a register (specs/Packed.antt says
-// what the number means). Every draw of one number stands on `drawn_from`: the first word settles nearly all, and the rest is the library's call.
+// A single draw below r, with a number added to its value, its answer in one number, so that it comes back in a register
+// (specs/Packed.antt says what the number means). Every draw of one number stands on `drawn_from`: the first word settles nearly all, and
+// the rest is the library's call.
 ghost use mathlib.Core.Path.{_≡_};
 ghost use Prim.Native.Nat.{_+_, _≤_, _^_};
 ghost use Rattle.vrd_ffi.specs.Packed.{packed, unpacked, Draws, Below};

@@ -1,5 +1,5 @@
-// The first word of a draw below r, which settles nearly every draw: where it is ready and surely good the generator moves by it. One ladder over
-// the kinds, no division, and the answer is one number in a register. Whatever is seldom is left to the library's call.
+// The first word of a draw below r, which settles nearly every draw: where it is ready and surely good the generator moves by it. One
+// ladder over the kinds, no division, and the answer is one number in a register. Whatever is seldom is left to the library's call.
 ghost use Rattle.vrd_ffi.specs.Moves.{Quick, Settles};
 use crate::state::pcg32_in;
 use crate::state::pcg64_in;

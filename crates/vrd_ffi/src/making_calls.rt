@@ -1,5 +1,5 @@
-// Making a generator in the caller's state and table. What its kind does not use is zeros in the state; the table is the twister's alone, and every
-// other making leaves it as it came.
+// Making a generator in the caller's state and table. What its kind does not use is zeros in the state; the table is the twister's alone,
+// and every other making leaves it as it came.
 ghost use Rattle.vrd_ffi.specs.Promises.{VrdMakePromise, VrdXoshiroWithSeedPromise, VrdMersenneTwisterWithSeedPromise};
 ghost use Rattle.vrd_ffi.specs.Promises.{VrdPcg32WithSeedPromise, VrdPcg64WithSeedPromise};
 ghost use Rattle.vrd_ffi.specs.Promises.{VrdPcg32WithStreamPromise, VrdPcg64WithStreamPromise};
@@ -16,7 +16,8 @@ pub extern "C" fn vrd_make_in(
     kind: u32,
     seed: &[u8],
 ) -> u32
-    ensures { λ r. ⌜ VrdMakePromise (now (state .entry)) (now (table .entry)) kind (now (seed .entry)) r (now (state .exit)) (now (table .exit)) ⌝ }
+    ensures { λ r. ⌜ VrdMakePromise (now (state .entry)) (now (table .entry)) kind (now (seed .entry)) r
+        (now (state .exit)) (now (table .exit)) ⌝ }
 {
     let m = making::make(kind, seed);
     if m.refusal != refusal::ANSWERED {

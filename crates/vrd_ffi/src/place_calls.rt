@@ -30,7 +30,8 @@ fn choose_by_library(
     list: &[u32],
     budget: u32,
 ) -> Choice
-    ensures { λ a. ⌜ VrdChoosePromise (now (state .entry)) (now (table .entry)) (now (list .entry)) budget a (now (state .exit)) (now (table .exit)) ⌝ }
+    ensures { λ a. ⌜ VrdChoosePromise (now (state .entry)) (now (table .entry)) (now (list .entry)) budget a
+        (now (state .exit)) (now (table .exit)) ⌝ }
 {
     if state[0] > 3 {
         return Choice {
@@ -51,6 +52,7 @@ fn choose_by_library(
     }
 }
 
+// The entry at a place of the list.
 fn entry_at(list: &[u32], place: usize) -> u32
     requires { ⌜ place < length (now list) ⌝ }
     ensures { λ r. ⌜ r ≡ getD (now (list .entry)) place 0 ⌝ }
@@ -88,7 +90,8 @@ pub extern "C" fn vrd_choose_in(
     list: &[u32],
     budget: u32,
 ) -> Choice
-    ensures { λ a. ⌜ VrdChoosePromise (now (state .entry)) (now (table .entry)) (now (list .entry)) budget a (now (state .exit)) (now (table .exit)) ⌝ }
+    ensures { λ a. ⌜ VrdChoosePromise (now (state .entry)) (now (table .entry)) (now (list .entry)) budget a
+        (now (state .exit)) (now (table .exit)) ⌝ }
 {
     let n = list.len();
     if n == 0 {
@@ -117,7 +120,8 @@ fn rand_slice_by_library(
     window: usize,
     budget: u32,
 ) -> Number
-    ensures { λ a. ⌜ VrdRandSlicePromise (now (state .entry)) (now (table .entry)) (now (list .entry)) window budget a (now (state .exit)) (now (table .exit)) ⌝ }
+    ensures { λ a. ⌜ VrdRandSlicePromise (now (state .entry)) (now (table .entry)) (now (list .entry)) window budget a
+        (now (state .exit)) (now (table .exit)) ⌝ }
 {
     if state[0] > 3 {
         return Number {
@@ -145,7 +149,8 @@ pub extern "C" fn vrd_rand_slice_in(
     window: usize,
     budget: u32,
 ) -> Number
-    ensures { λ a. ⌜ VrdRandSlicePromise (now (state .entry)) (now (table .entry)) (now (list .entry)) window budget a (now (state .exit)) (now (table .exit)) ⌝ }
+    ensures { λ a. ⌜ VrdRandSlicePromise (now (state .entry)) (now (table .entry)) (now (list .entry)) window budget a
+        (now (state .exit)) (now (table .exit)) ⌝ }
 {
     let n = list.len();
     if n > lists::limit::LIST_LIMIT {

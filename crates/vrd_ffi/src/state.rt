@@ -1,5 +1,6 @@
-// The generator as a caller of another language holds it: a state of six words beside the twister's table. The state has the kind, the twister's
-// position (its low 32 bits count), and the kind's small words: xoshiro's four; Pcg32's state and increment; Pcg64's, high word first. Here it is read.
+// The generator as a caller of another language holds it: a state of six words beside the twister's table. The state has the kind, the
+// twister's position (its low 32 bits count), and the kind's small words: xoshiro's four; Pcg32's state and increment; Pcg64's, high word
+// first. Here it is read.
 ghost use mathlib.Core.Path.{_≡_};
 ghost use Rattle.vrd_ffi.specs.Promises.{EngineInPromise};
 ghost use Rattle.vrd_ffi.specs.State.{positionIn, xoshiroIn, pcg32In, pcg64In};

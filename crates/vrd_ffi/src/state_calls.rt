@@ -1,5 +1,6 @@
 // The generator's state: seeded anew, split, the twister's position and twist, and equality of two generators.
-ghost use Rattle.vrd_ffi.specs.Promises.{VrdSeedPromise, VrdTwistPromise, VrdSetMtiPromise, VrdMtiPromise, VrdSplitPromise, VrdSamePromise};
+ghost use Rattle.vrd_ffi.specs.Promises.{VrdSeedPromise, VrdTwistPromise, VrdSetMtiPromise, VrdMtiPromise, VrdSplitPromise};
+ghost use Rattle.vrd_ffi.specs.Promises.{VrdSamePromise};
 use crate::answers::Equality;
 use crate::answers::Word;
 use crate::state::engine_in;

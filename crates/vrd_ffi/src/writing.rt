@@ -1,5 +1,5 @@
-// A generator written to a state. What its kind does not use stays as it came: the position too, of which the twister alone has use. The array is
-// written whole, since the prover can't read single stores back; the compiler leaves out the words that stay.
+// A generator written to a state. What its kind does not use stays as it came: the position too, of which the twister alone has use. The
+// array is written whole, since the prover can't read single stores back; the compiler leaves out the words that stay.
 ghost use mathlib.Core.Path.{_≡_};
 ghost use Rattle.vrd_ffi.specs.Promises.{WritePromise};
 ghost use Rattle.vrd_ffi.specs.State.{smallState, positionState, stateAfter, stateOf};

@@ -10,7 +10,8 @@ use Rattle.bench_ffi.proofs.lent_loops.draws_row.Statement.{statement}
 use Rattle.bench_ffi.proofs.lent_loops.draws_row.Tie as tie
 
 abbrev Inv-loop : tie.InvT-loop
-Inv-loop mt₀ r budget n next₀ sum₀ used₀ i₀ mt next sum used i = (i ≤ n) × (record { sum = sum; used = used; next = joinedWith next mt } ≡ drawsRow r budget i (joinedWith next₀ mt₀))
+Inv-loop mt₀ r budget n next₀ sum₀ used₀ i₀ mt next sum used i =
+    (i ≤ n) × (record { sum = sum; used = used; next = joinedWith next mt } ≡ drawsRow r budget i (joinedWith next₀ mt₀))
 
 abbrev μ-loop : tie.MeasureT-loop
 μ-loop mt₀ r budget n next₀ sum₀ used₀ i₀ mt next sum used i = n - i

@@ -9,7 +9,8 @@ use Rattle.bench_ffi.proofs.value_loops.draws_by_value.Statement.{state
 use Rattle.bench_ffi.proofs.value_loops.draws_by_value.Tie as tie
 
 abbrev Inv-loop : tie.InvT-loop
-Inv-loop r budget n next₀ sum₀ used₀ i₀ next sum used i = (i ≤ n) × (record { sum = sum; used = used; next = next } ≡ drawsRow r budget i next₀)
+Inv-loop r budget n next₀ sum₀ used₀ i₀ next sum used i =
+    (i ≤ n) × (record { sum = sum; used = used; next = next } ≡ drawsRow r budget i next₀)
 
 abbrev μ-loop : tie.MeasureT-loop
 μ-loop r budget n next₀ sum₀ used₀ i₀ next sum used i = n - i

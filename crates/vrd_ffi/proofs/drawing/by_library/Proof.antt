@@ -1,5 +1,6 @@
 -- `by_library` meets its contract: an unknown kind, and the library's answer, packed.
 use borrow.Author.Needs.{needs}
+use native.Mathlib.Omega.{arith}
 use Rattle.vrd_ffi.specs.PackedLaws.{packs-kind, kind-below, library-draws, library-below}
 use Rattle.vrd_ffi.proofs.drawing.by_library.Statement.{statement}
 use Rattle.vrd_ffi.proofs.drawing.by_library.Tie as tie
@@ -14,7 +15,7 @@ add-result : tie.Need-add-result
 add-result c = search needs
 
 returns : tie.Need-returns
-returns c = (packs-kind _ _ _ _ _ (c .if1 .taken), kind-below _ _)
+returns c = (packs-kind _ _ _ _ _ (omega (arith, c .if1 .taken)), kind-below _ _)
 
 engine-in-requires : tie.Need-engine-in-requires
 engine-in-requires c κs = search needs
@@ -37,9 +38,10 @@ returns-2 c =
     let room = known .before .before .pre in
     let drawn = rw (came .engine-in .ensures) at (call .bounded-in .ensures .0) in
     let small = call .bounded-in .ensures .1 in
-    rw (c .pack .ensures)
-    (library-draws _ _ _ _ _ room (known .if1 .left) (call .bounded-in .result) _ _ drawn small (settled .settle .ensures),
-    library-below _ _ _ _ _ room (call .bounded-in .result) _ drawn small)
+    rw (c .pack .ensures) (
+      library-draws _ _ _ _ _ room (omega (arith, known .if1 .left)) (call .bounded-in .result) _ _ drawn small (settled .settle .ensures),
+      library-below _ _ _ _ _ room (call .bounded-in .result) _ drawn small,
+    )
 
 pub by-library-spec : {M : Type 1} → statement M
 by-library-spec =
