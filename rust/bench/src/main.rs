@@ -1,8 +1,10 @@
 //! Times the port against the original, both at release, in one run: words, draws, calls one at a time, fillings and shuffles, on every
 //! kind and from the same seed, which is known at run time only. What the two sides answer, with the generators after it, is compared
-//! before any time is printed. The runs of the two sides alternate, and the least of five counts. Beside each ratio stands what it may be.
+//! before any time is printed. The runs of the two sides alternate, and the least of a hundred counts. Beside each ratio stands what it may
+//! be.
 //!
-//! Usage: bench [SEED [WORDS [PICTURE]]]; without arguments the seed is 42 and the words are 10^8. PICTURE is a file to write as SVG.
+//! Usage: bench [SEED [WORDS [PICTURE]]]; without arguments the seed is 42 and the words of a loop, in all its runs, are 10^8. PICTURE is a
+//! file to write as SVG.
 
 mod bulk;
 mod calls;
@@ -19,7 +21,7 @@ use std::hint::black_box;
 use std::process::ExitCode;
 use timing::Line;
 
-/// Words of a loop. Draws and single calls are a tenth of them.
+/// Words of a loop in all its runs. Draws and single calls are a tenth of them.
 const WORDS: u64 = 100_000_000;
 
 fn main() -> ExitCode {
@@ -35,8 +37,11 @@ fn main() -> ExitCode {
 /// Times every case, then prints the table.
 fn report() -> Result<(), String> {
     let seed = black_box(number(1)?.unwrap_or(42));
-    let words = black_box(number(2)?.unwrap_or(WORDS));
+    let words = black_box(number(2)?.unwrap_or(WORDS)) / timing::RUNS;
     let few = words / 10;
+    if few < timing::LEAST {
+        return Err(format!("so few words say nothing: {} at least", 10 * timing::LEAST * timing::RUNS));
+    }
     let families =
         [words::cases(seed, words), peers::cases(seed, words), draws::cases(seed, few), calls::cases(seed, few), bulk::cases(seed)];
     let lines = families.iter().flatten().map(timing::measure).collect::<Result<Vec<Line>, String>>()?;

@@ -4,8 +4,11 @@ use std::fmt;
 use std::hint::black_box;
 use std::time::Instant;
 
-/// Runs of each side; the least time counts.
-pub const RUNS: usize = 5;
+/// Runs of each side; the least time counts. They are many and short, so that some fall between what else the machine does.
+pub const RUNS: u64 = 100;
+
+/// Calls of a run at least.
+pub const LEAST: u64 = 1_000;
 
 /// What a run answers (numbers that stand for words, sums, buffers, lists and the generator after it), and how long the call took,
 /// without the making of its generator, in seconds.
