@@ -1,19 +1,27 @@
-/* Random draws that are exact, that stop, and that are proved: the exports of the Rattle crate vrd_ffi for C.
+/* Random draws that are exact, that stop, and that are proved: four generators and the draws over them, for C11 and C++.
  *
- * `rt staticlib vrd_ffi` in the root of the repository writes target/staticlib/libvrd_ffi.a:
+ *     vrd_random unit;
+ *     vrd_xoshiro_with_seed(&unit, 42);
+ *     vrd_number inlet = vrd_bounded(&unit, 40, 100);   below 40, with at most 100 words
+ *     if (inlet.refusal == VRD_ANSWERED) ...            inlet.value was drawn; it took inlet.used words
  *
- *     cc -std=c11 -I include program.c target/staticlib/libvrd_ffi.a
+ * The library is the archive of the Rattle crate vrd_ffi. `make install PREFIX=/some/folder` in the root of the repository installs it,
+ * and then `cc program.c $(pkg-config --cflags --libs vrd)` finds it. Without installing:
  *
- * A generator is a vrd_parts, passed by value and handed back as `next`, and beside it a table of VRD_TABLE words that the caller
- * keeps and lends. Only kind 1 reads or writes the table, but every call that draws wants one.
+ *     rt staticlib vrd_ffi
+ *     cc -I include program.c target/staticlib/libvrd_ffi.a
  *
- * Every answer has a refusal number, VRD_ANSWERED or one of the numbers below. Refused, the other numbers are 0, the
- * generator is handed back as it came, and table, list and buffer are untouched. A kind above 3 is refused with VRD_KIND by
- * every call that takes a generator, before anything else is looked at.
+ * Rules that hold for every call:
  *
- * A budget is the most words that a call may look at; `used` is how many the answer took. Beyond it the refusal is VRD_BUDGET.
- *
- * A list is an address and a number of entries. The address is never NULL, also where the number is 0. */
+ * - A generator is a vrd_random that a making call has written. Calls change it where it stands; copying it by = forks it. Calls on
+ *   generators that share no memory may run at the same time.
+ * - Every answer has a refusal: VRD_ANSWERED (0), or the number that says why not. Refused, the rest of the answer is 0, and generator,
+ *   lists and buffers are as they were. A call that returns a uint32_t returns the refusal itself.
+ * - A kind above 3 in state[0] is refused with VRD_KIND by every call that takes a generator, before anything else is looked at.
+ * - A budget, any number of 32 bits, is the most words that a call may look at; `used` is how many its answer took. Where they don't
+ *   suffice the call is refused with VRD_BUDGET, which is looked at last. A larger budget never changes an answer given.
+ * - A list or a buffer is an address and a number of entries. The address is never NULL, also where the number is 0, and what it names may
+ *   not overlap the generator. */
 #ifndef VRD_H
 #define VRD_H
 
@@ -25,11 +33,11 @@
 extern "C" {
 #endif
 
-/* Entries of the table. */
-#define VRD_TABLE 624
-
-/* The longest list that is taken. */
-#define VRD_LIST_LIMIT 65536
+/* A generator. state: the kind; the twister's position, of which the low 32 bits count; and four words: of kind 0 its state, of kind 2
+ * state and increment, of kind 3 the state's high and low word and the increment's. The table is kind 1's. A call leaves alone what the
+ * kind does not use. All of it may be set by hand: any words draw by the same rules. At a position of 624 and above the next word renews
+ * the table first. */
+typedef struct { uint64_t state[6]; uint32_t table[624]; } vrd_random;
 
 /* Kinds. */
 enum {
@@ -46,7 +54,7 @@ enum {
     VRD_ORDER = 2,        /* ends out of order */
     VRD_CHANCE = 3,       /* a chance that is NaN, below 0 or above 1 */
     VRD_EMPTY = 4,        /* an empty list */
-    VRD_TOO_LONG = 5,     /* a list above VRD_LIST_LIMIT */
+    VRD_TOO_LONG = 5,     /* a list above vrd_list_limit() */
     VRD_WINDOW = 6,       /* a window of 0, or longer than the list */
     VRD_NOT_FINITE = 7,   /* an end, or the distance of the ends, is not finite */
     VRD_BUDGET = 8,       /* the draws don't finish within the budget */
@@ -55,206 +63,259 @@ enum {
     VRD_SEED_LENGTH = 11  /* a byte seed that is not of the kind's length */
 };
 
-/* A generator without its table. Kind 0: four words. Kind 1: mti, the position in the table; at 624 and above the next word
- * renews the table first. Kind 2: w0 the state, w1 the increment in use. Kind 3: state in w0 (high) and w1, increment in w2
- * (high) and w3. It may be set by hand: every value draws by the same rules. What a kind does not use is handed back as it came. */
-typedef struct {
-    uint32_t kind;
-    uint32_t mti;
-    uint64_t w0;
-    uint64_t w1;
-    uint64_t w2;
-    uint64_t w3;
-} vrd_parts;
+/* Answers: a word, a word read as signed, a float, a double. */
+typedef struct { uint64_t value; uint32_t refusal; } vrd_word;
+typedef struct { int64_t value; uint32_t refusal; } vrd_signed_word;
+typedef struct { float value; uint32_t refusal; } vrd_number32;
+typedef struct { double value; uint32_t refusal; } vrd_number64;
+
+/* Answers with the words used: a number below 2^32 (of vrd_rand_slice: a place), a signed number, a bool, an entry with its place. */
+typedef struct { uint64_t value; uint32_t used; uint32_t refusal; } vrd_number;
+typedef struct { uint32_t used; uint32_t refusal; int32_t value; } vrd_integer;
+typedef struct { uint32_t used; uint32_t refusal; bool value; } vrd_coin;
+typedef struct { uint64_t place; uint64_t value; uint32_t used; uint32_t refusal; } vrd_choice;
+
+/* Whether two generators are equal. */
+typedef struct { uint32_t refusal; bool equal; } vrd_equality;
 
 /* A number of 128 bits. */
-typedef struct {
-    uint64_t high;
-    uint64_t low;
-} vrd_wide;
+typedef struct { uint64_t high; uint64_t low; } vrd_wide;
 
-/* A word and the generator after it: of 32 bits, of 64, of 64 read as signed. */
-typedef struct {
-    uint32_t refusal;
-    uint32_t word;
-    vrd_parts next;
-} vrd_word32;
+/* What the archive exports: the calls below over the two arrays of a generator. */
+void vrd_xoshiro_with_seed_in(uint64_t *state, uint64_t seed);
+void vrd_mersenne_twister_with_seed_in(uint64_t *state, uint32_t *table, uint32_t seed);
+void vrd_pcg32_with_seed_in(uint64_t *state, uint64_t seed);
+void vrd_pcg64_with_seed_in(uint64_t *state, vrd_wide seed);
+void vrd_pcg32_with_stream_in(uint64_t *state, uint64_t seed, uint64_t stream);
+void vrd_pcg64_with_stream_in(uint64_t *state, vrd_wide seed, vrd_wide stream);
+uint32_t vrd_make_in(uint64_t *state, uint32_t *table, uint32_t kind, const uint8_t *seed, size_t length);
+vrd_word vrd_rand_in(uint64_t *state, uint32_t *table);
+vrd_word vrd_u64_in(uint64_t *state, uint32_t *table);
+vrd_signed_word vrd_i64_in(uint64_t *state, uint32_t *table);
+vrd_word vrd_pseudo_in(uint64_t *state, uint32_t *table);
+uint32_t vrd_fill_bytes_in(uint64_t *state, uint32_t *table, uint8_t *dest, size_t length);
+vrd_number vrd_bounded_in(uint64_t *state, uint32_t *table, uint32_t bound, uint32_t budget);
+vrd_number vrd_random_range_in(uint64_t *state, uint32_t *table, uint32_t min, uint32_t max, uint32_t budget);
+vrd_number vrd_uint_in(uint64_t *state, uint32_t *table, uint32_t min, uint32_t max, uint32_t budget);
+vrd_integer vrd_int_in(uint64_t *state, uint32_t *table, int32_t min, int32_t max, uint32_t budget);
+vrd_integer vrd_range_in(uint64_t *state, uint32_t *table, int32_t min, int32_t max, uint32_t budget);
+vrd_number vrd_char_in(uint64_t *state, uint32_t *table, uint32_t budget);
+vrd_choice vrd_choose_in(uint64_t *state, uint32_t *table, const uint32_t *list, size_t length, uint32_t budget);
+vrd_number vrd_rand_slice_in(uint64_t *state, uint32_t *table, const uint32_t *list, size_t length, size_t window, uint32_t budget);
+vrd_number vrd_shuffle_in(uint64_t *state, uint32_t *table, uint32_t *list, size_t length, uint32_t budget);
+vrd_number32 vrd_float_in(uint64_t *state, uint32_t *table);
+vrd_number64 vrd_double_in(uint64_t *state, uint32_t *table);
+vrd_coin vrd_bool_in(uint64_t *state, uint32_t *table, double chance);
+vrd_number64 vrd_uniform_in(uint64_t *state, uint32_t *table, double low, double high);
+uint32_t vrd_seed_in(uint64_t *state, uint32_t *table, uint32_t seed);
+uint32_t vrd_twist_in(uint64_t *state, uint32_t *table);
+uint32_t vrd_set_mti_in(uint64_t *state, uint32_t value);
+vrd_word vrd_mti_in(const uint64_t *state);
+uint32_t vrd_split_in(uint64_t *state, uint64_t *child);
+vrd_equality vrd_same_in(const uint64_t *state, const uint32_t *table, const uint64_t *other, const uint32_t *other_table);
 
-typedef struct {
-    uint32_t refusal;
-    uint64_t word;
-    vrd_parts next;
-} vrd_word64;
+/* The most entries that a list may have. */
+uint64_t vrd_list_limit(void);
 
-typedef struct {
-    uint32_t refusal;
-    int64_t word;
-    vrd_parts next;
-} vrd_signed64;
+/* ---- Making ---- They write a generator into g, whatever it held; only kind 1 writes the table. */
 
-/* A word of a generator that has moved in place. */
-typedef struct {
-    uint32_t refusal;
-    uint32_t word;
-} vrd_moved_word32;
+/* Xoshiro256++ (kind 0) from a seed. Seed 0 is replaced by a constant. Refuses nothing. */
+static inline void vrd_xoshiro_with_seed(vrd_random *g, uint64_t seed)
+{
+    vrd_xoshiro_with_seed_in(g->state, seed);
+}
 
-typedef struct {
-    uint32_t refusal;
-    uint64_t word;
-} vrd_moved_word64;
+/* The Mersenne Twister MT19937 (kind 1) from a seed. Refuses nothing. */
+static inline void vrd_mersenne_twister_with_seed(vrd_random *g, uint32_t seed)
+{
+    vrd_mersenne_twister_with_seed_in(g->state, g->table, seed);
+}
 
-/* A float and the generator after it. */
-typedef struct {
-    uint32_t refusal;
-    float value;
-    vrd_parts next;
-} vrd_number32;
+/* Pcg32 (kind 2) from a seed, on the default stream. Refuses nothing. */
+static inline void vrd_pcg32_with_seed(vrd_random *g, uint64_t seed)
+{
+    vrd_pcg32_with_seed_in(g->state, seed);
+}
 
-typedef struct {
-    uint32_t refusal;
-    double value;
-    vrd_parts next;
-} vrd_number64;
+/* Pcg64 (kind 3) from a seed, on the default stream. Refuses nothing. */
+static inline void vrd_pcg64_with_seed(vrd_random *g, vrd_wide seed)
+{
+    vrd_pcg64_with_seed_in(g->state, seed);
+}
 
-/* A bool, the words used, and the generator after them. */
-typedef struct {
-    uint32_t refusal;
-    uint32_t used;
-    bool value;
-    vrd_parts next;
-} vrd_coin;
+/* Pcg32 from a seed and a stream. Refuses nothing. */
+static inline void vrd_pcg32_with_stream(vrd_random *g, uint64_t seed, uint64_t stream)
+{
+    vrd_pcg32_with_stream_in(g->state, seed, stream);
+}
 
-/* A number drawn within a budget, the words used, and the generator after them. */
-typedef struct {
-    uint32_t refusal;
-    uint32_t value;
-    uint32_t used;
-    vrd_parts next;
-} vrd_number;
+/* Pcg64 from a seed and a stream. Refuses nothing. */
+static inline void vrd_pcg64_with_stream(vrd_random *g, vrd_wide seed, vrd_wide stream)
+{
+    vrd_pcg64_with_stream_in(g->state, seed, stream);
+}
 
-typedef struct {
-    uint32_t refusal;
-    int32_t value;
-    uint32_t used;
-    vrd_parts next;
-} vrd_integer;
+/* A generator of any kind from bytes: 32, 32, 16 and 32 of them for the kinds 0 to 3. Refuses with VRD_KIND, then VRD_SEED_LENGTH; a
+ * vrd_random that was no generator before is none then. */
+static inline uint32_t vrd_make(vrd_random *g, uint32_t kind, const uint8_t *seed, size_t length)
+{
+    return vrd_make_in(g->state, g->table, kind, seed, length);
+}
 
-/* A number drawn within a budget, and the words used, of a generator that has moved in place. */
-typedef struct {
-    uint32_t refusal;
-    uint32_t value;
-    uint32_t used;
-} vrd_moved_number;
+/* ---- Words ---- */
 
-/* An entry of a list, with its place. */
-typedef struct {
-    uint32_t refusal;
-    uint32_t value;
-    uint32_t used;
-    size_t place;
-    vrd_parts next;
-} vrd_chosen;
+/* The next word of 32 bits; on kinds 0 and 3 the high half of a word of 64. */
+static inline vrd_word vrd_rand(vrd_random *g)
+{
+    return vrd_rand_in(g->state, g->table);
+}
 
-/* Where a part of a list starts. */
-typedef struct {
-    uint32_t refusal;
-    uint32_t used;
-    size_t start;
-    vrd_parts next;
-} vrd_started;
+/* The next word of 64 bits: one word of kinds 0 and 3, two of kind 1 (the high half first) and of kind 2 (the low half first). */
+static inline vrd_word vrd_u64(vrd_random *g)
+{
+    return vrd_u64_in(g->state, g->table);
+}
 
-/* The words used for a new order. */
-typedef struct {
-    uint32_t refusal;
-    uint32_t used;
-    vrd_parts next;
-} vrd_ordered;
+/* vrd_u64, read as a signed number. */
+static inline vrd_signed_word vrd_i64(vrd_random *g)
+{
+    return vrd_i64_in(g->state, g->table);
+}
 
-/* The generator after a call that answers nothing else. */
-typedef struct {
-    uint32_t refusal;
-    vrd_parts next;
-} vrd_moved;
+/* 32 words of 32 bits XORed. */
+static inline vrd_word vrd_pseudo(vrd_random *g)
+{
+    return vrd_pseudo_in(g->state, g->table);
+}
 
-/* The two generators of one; refused, the child is kind 0 with four zero words. */
-typedef struct {
-    uint32_t refusal;
-    vrd_parts parent;
-    vrd_parts child;
-} vrd_divided;
+/* Fills the buffer: by words of 8 bytes on kinds 0 and 3, of 4 on kinds 1 and 2, the lowest byte first. A short tail takes a whole word. */
+static inline uint32_t vrd_fill_bytes(vrd_random *g, uint8_t *dest, size_t length)
+{
+    return vrd_fill_bytes_in(g->state, g->table, dest, length);
+}
 
-/* A generator made; refused, it is kind 0 with four zero words. */
-typedef struct {
-    uint32_t refusal;
-    vrd_parts generator;
-} vrd_made;
+/* ---- Numbers within a budget ---- Each value is exactly as likely as every other. */
 
-/* A position. */
-typedef struct {
-    uint32_t refusal;
-    uint32_t mti;
-} vrd_position;
+/* A number below the bound. Refuses with VRD_ZERO_RANGE where that is 0. */
+static inline vrd_number vrd_bounded(vrd_random *g, uint32_t bound, uint32_t budget)
+{
+    return vrd_bounded_in(g->state, g->table, bound, budget);
+}
 
-/* Whether two generators are equal: their kinds and that kind's own parts are. */
-typedef struct {
-    uint32_t refusal;
-    bool equal;
-} vrd_equality;
+/* A number from min up to max - 1. Refuses with VRD_ORDER where min is not below max. */
+static inline vrd_number vrd_random_range(vrd_random *g, uint32_t min, uint32_t max, uint32_t budget)
+{
+    return vrd_random_range_in(g->state, g->table, min, max, budget);
+}
 
-/* Making. A kind's own calls refuse nothing. vrd_make takes 32, 32, 16 and 32 bytes for the kinds 0 to 3 and refuses with
- * VRD_KIND, then VRD_SEED_LENGTH. Only kind 1 writes the table. */
-vrd_parts vrd_xoshiro_with_seed(uint64_t seed);
-vrd_parts vrd_mersenne_twister_with_seed(uint32_t seed, uint32_t *table);
-vrd_parts vrd_pcg32_with_seed(uint64_t seed);
-vrd_parts vrd_pcg64_with_seed(vrd_wide seed);
-vrd_parts vrd_pcg32_with_stream(uint64_t seed, uint64_t stream);
-vrd_parts vrd_pcg64_with_stream(vrd_wide seed, vrd_wide stream);
-vrd_made vrd_make(uint32_t kind, const uint8_t *seed, size_t length, uint32_t *table);
+/* A number from min up to max, both included; equal ends take no word. Refuses with VRD_ORDER where min is above max. */
+static inline vrd_number vrd_uint(vrd_random *g, uint32_t min, uint32_t max, uint32_t budget)
+{
+    return vrd_uint_in(g->state, g->table, min, max, budget);
+}
 
-/* Words: of 32 bits, of 64, of 64 read as signed, and 32 words XORed. */
-vrd_word32 vrd_rand(vrd_parts g, uint32_t *table);
-vrd_word64 vrd_u64(vrd_parts g, uint32_t *table);
-vrd_signed64 vrd_i64(vrd_parts g, uint32_t *table);
-vrd_word32 vrd_pseudo(vrd_parts g, uint32_t *table);
+/* vrd_uint over signed numbers. */
+static inline vrd_integer vrd_int(vrd_random *g, int32_t min, int32_t max, uint32_t budget)
+{
+    return vrd_int_in(g->state, g->table, min, max, budget);
+}
 
-/* Fills the buffer: words of 8 bytes on kinds 0 and 3, of 4 on kinds 1 and 2, the lowest byte first. */
-vrd_moved vrd_fill_bytes(vrd_parts g, uint32_t *table, uint8_t *dest, size_t length);
+/* vrd_int by its other name. */
+static inline vrd_integer vrd_range(vrd_random *g, int32_t min, int32_t max, uint32_t budget)
+{
+    return vrd_range_in(g->state, g->table, min, max, budget);
+}
 
-/* State. vrd_seed keeps the kind. vrd_mti, vrd_set_mti (at most 624 is stored) and vrd_twist: 0 and nothing on kinds other than 1. */
-vrd_moved vrd_seed(vrd_parts g, uint32_t *table, uint32_t seed);
-vrd_divided vrd_split(vrd_parts g);
-vrd_position vrd_mti(vrd_parts g);
-vrd_moved vrd_set_mti(vrd_parts g, uint32_t value);
-vrd_moved vrd_twist(vrd_parts g, uint32_t *table);
-vrd_equality vrd_same(vrd_parts g, const uint32_t *table, vrd_parts other, const uint32_t *other_table);
+/* The ASCII code of a letter from 'a' to 'z'. */
+static inline vrd_number vrd_char(vrd_random *g, uint32_t budget)
+{
+    return vrd_char_in(g->state, g->table, budget);
+}
 
-/* Numbers within a budget: below a bound; from min up to max - 1; from min up to max (vrd_range is vrd_int by its other name);
- * a letter's ASCII code, from 97 to 122. */
-vrd_number vrd_bounded(vrd_parts g, uint32_t *table, uint32_t bound, uint32_t budget);
-vrd_number vrd_random_range(vrd_parts g, uint32_t *table, uint32_t min, uint32_t max, uint32_t budget);
-vrd_integer vrd_int(vrd_parts g, uint32_t *table, int32_t min, int32_t max, uint32_t budget);
-vrd_integer vrd_range(vrd_parts g, uint32_t *table, int32_t min, int32_t max, uint32_t budget);
-vrd_number vrd_uint(vrd_parts g, uint32_t *table, uint32_t min, uint32_t max, uint32_t budget);
-vrd_number vrd_char(vrd_parts g, uint32_t *table, uint32_t budget);
+/* ---- Lists within a budget ---- All refuse a list above vrd_list_limit() with VRD_TOO_LONG. */
 
-/* vrd_rand, vrd_u64 and vrd_bounded in place, which is faster a call at a time: kind, position, the four small words (as w0 to w3 in
- * vrd_parts) and the table make the generator, and what moves is written where it stands. The four may not overlap. */
-vrd_moved_word32 vrd_rand_in_place(uint32_t kind, uint32_t *mti, uint64_t *words, uint32_t *table);
-vrd_moved_word64 vrd_u64_in_place(uint32_t kind, uint32_t *mti, uint64_t *words, uint32_t *table);
-vrd_moved_number vrd_bounded_in_place(uint32_t kind, uint32_t *mti, uint64_t *words, uint32_t *table, uint32_t bound,
-                                      uint32_t budget);
+/* An entry of the list, with its place. Refuses with VRD_EMPTY, then VRD_TOO_LONG. */
+static inline vrd_choice vrd_choose(vrd_random *g, const uint32_t *list, size_t length, uint32_t budget)
+{
+    return vrd_choose_in(g->state, g->table, list, length, budget);
+}
 
-/* Lists within a budget: an entry; the start of a part that is `window` long; a new order in place. */
-vrd_chosen vrd_choose(vrd_parts g, uint32_t *table, const uint32_t *list, size_t length, uint32_t budget);
-vrd_started vrd_rand_slice(vrd_parts g, uint32_t *table, const uint32_t *list, size_t length, size_t window,
-                           uint32_t budget);
-vrd_ordered vrd_shuffle(vrd_parts g, uint32_t *table, uint32_t *list, size_t length, uint32_t budget);
+/* The place where a part of the list starts that is `window` long. Refuses with VRD_EMPTY, VRD_TOO_LONG, then VRD_WINDOW. */
+static inline vrd_number vrd_rand_slice(vrd_random *g, const uint32_t *list, size_t length, size_t window, uint32_t budget)
+{
+    return vrd_rand_slice_in(g->state, g->table, list, length, window, budget);
+}
 
-/* Floats: from 0 up to 1 of 24 and of 53 bits; true with a chance; a number of an interval, which may equal high. */
-vrd_number32 vrd_float(vrd_parts g, uint32_t *table);
-vrd_number64 vrd_double(vrd_parts g, uint32_t *table);
-vrd_coin vrd_bool(vrd_parts g, uint32_t *table, double chance);
-vrd_number64 vrd_uniform(vrd_parts g, uint32_t *table, double low, double high);
+/* Puts the list into another order, all its draws under one budget; the value is 0. Lists of 0 and 1 entries take no word. */
+static inline vrd_number vrd_shuffle(vrd_random *g, uint32_t *list, size_t length, uint32_t budget)
+{
+    return vrd_shuffle_in(g->state, g->table, list, length, budget);
+}
+
+/* ---- Floats ---- */
+
+/* A number from 0 up to, but not including, 1, of 24 bits: (word >> 8) / 2^24. */
+static inline vrd_number32 vrd_float(vrd_random *g)
+{
+    return vrd_float_in(g->state, g->table);
+}
+
+/* A number from 0 up to, but not including, 1, of 53 bits: (64-bit word >> 11) / 2^53. */
+static inline vrd_number64 vrd_double(vrd_random *g)
+{
+    return vrd_double_in(g->state, g->table);
+}
+
+/* True with this chance: whether a vrd_double is below it. Refuses with VRD_CHANCE. */
+static inline vrd_coin vrd_bool(vrd_random *g, double chance)
+{
+    return vrd_bool_in(g->state, g->table, chance);
+}
+
+/* low + (high - low) * vrd_double, each operation rounded once; it may equal high. Refuses with VRD_NOT_FINITE for an end, then
+ * VRD_ORDER where low is not below high, then VRD_NOT_FINITE where high - low overflows. */
+static inline vrd_number64 vrd_uniform(vrd_random *g, double low, double high)
+{
+    return vrd_uniform_in(g->state, g->table, low, high);
+}
+
+/* ---- State ---- */
+
+/* Seeds the generator anew. The kind is kept; kinds 2 and 3 go to their default stream. */
+static inline uint32_t vrd_seed(vrd_random *g, uint32_t seed)
+{
+    return vrd_seed_in(g->state, g->table, seed);
+}
+
+/* Renews the table and sets the position to 0; nothing on kinds other than 1. */
+static inline uint32_t vrd_twist(vrd_random *g)
+{
+    return vrd_twist_in(g->state, g->table);
+}
+
+/* Sets the position, at most to 624; nothing on kinds other than 1. */
+static inline uint32_t vrd_set_mti(vrd_random *g, uint32_t value)
+{
+    return vrd_set_mti_in(g->state, value);
+}
+
+/* The position; 0 on kinds other than 1. */
+static inline vrd_word vrd_mti(const vrd_random *g)
+{
+    return vrd_mti_in(g->state);
+}
+
+/* A second generator, of kind 0 alone: the child gets the old state, and g jumps. Refuses with VRD_NO_SPLIT. */
+static inline uint32_t vrd_split(vrd_random *g, vrd_random *child)
+{
+    return vrd_split_in(g->state, child->state);
+}
+
+/* Two generators are equal if their kinds and that kind's own parts are. */
+static inline vrd_equality vrd_same(const vrd_random *g, const vrd_random *other)
+{
+    return vrd_same_in(g->state, g->table, other->state, other->table);
+}
 
 #ifdef __cplusplus
 }

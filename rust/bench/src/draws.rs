@@ -1,30 +1,68 @@
-//! Draws below 40 in a row: the original's loop, and the two that the port exports. The sums, the words used and the generators
-//! after them are compared.
+//! Words and draws below 40 of the facade in a row: the original's loops, and those that the port exports, over a lent generator and by
+//! value. The words XORed, the sums, the words used and the generators after them are compared.
 
 use crate::kinds;
-use crate::timing::{timed, Case, Run};
-use port::{Parts, Sums, Table};
+use crate::timing::{timed, Case, Limit, Run};
+use port::{State, Sums, Table, Word};
 
 /// The bound, and a budget that no draw comes near.
 pub const BOUND: u32 = 40;
 pub const BUDGET: u32 = 1_000;
 
-type Loop = extern "C" fn(Parts, &mut Table, u32, u32, u64) -> Sums;
+/// A loop by value copies the table in and out at each turn, and so has fewer turns.
+const BY_VALUE: Limit = Limit::Nanoseconds(200.0);
+const FEWER: u64 = 10;
 
-pub fn cases(seed: u64, draws: u64) -> Vec<Case> {
-    let loops: [(&str, u64, Loop); 2] = [
-        ("draw below 40, loop over a lent table", draws, port::bench_draws_lent),
-        ("draw below 40, loop by value", draws / 10, port::bench_draws_by_value),
+type Words = extern "C" fn(&mut State, &mut Table, u64) -> Word<u64>;
+type Draws = extern "C" fn(&mut State, &mut Table, u32, u32, u64) -> Sums;
+
+pub fn cases(seed: u64, turns: u64) -> Vec<Case> {
+    let few = turns / FEWER;
+    let words: [(&str, u64, Limit, Words); 2] = [
+        ("rand, loop over a lent generator", turns, Limit::Times(1.35), port::bench_words_in),
+        ("rand, loop by value", few, BY_VALUE, port::bench_words_by_value),
     ];
-    let case = |(what, count, call): (&'static str, u64, Loop), kind: usize| Case {
-        what,
-        kind: kinds::NAMES[kind],
-        count,
-        unit: "draw",
-        original: Box::new(move || original(kind, seed, count)),
-        port: Box::new(move || port_loop(kind, seed, count, call)),
-    };
-    loops.into_iter().flat_map(|l| (0..4).map(move |kind| case(l, kind))).collect()
+    let draws: [(&str, u64, Limit, Draws); 2] = [
+        ("draw below 40, loop over a lent generator", turns, Limit::Times(2.0), port::bench_draws_in),
+        ("draw below 40, loop by value", few, BY_VALUE, port::bench_draws_by_value),
+    ];
+    let kinds = || (0..4).map(|kind| (kind, kinds::NAMES[kind]));
+    let word_cases = words.into_iter().flat_map(|(what, count, limit, call)| {
+        kinds().map(move |(kind, name)| Case {
+            what,
+            kind: name,
+            count,
+            unit: "word",
+            limit,
+            original: Box::new(move || original_words(kind, seed, count)),
+            port: Box::new(move || port_words(kind, seed, count, call)),
+        })
+    });
+    let draw_cases = draws.into_iter().flat_map(|(what, count, limit, call)| {
+        kinds().map(move |(kind, name)| Case {
+            what,
+            kind: name,
+            count,
+            unit: "draw",
+            limit,
+            original: Box::new(move || original_draws(kind, seed, count)),
+            port: Box::new(move || port_draws(kind, seed, count, call)),
+        })
+    });
+    word_cases.chain(draw_cases).collect()
+}
+
+#[inline(never)]
+fn xored(g: &mut vrd_original::Random, n: u64) -> u64 {
+    (0..n).fold(0, |xor, _| xor ^ u64::from(g.rand()))
+}
+
+fn original_words(kind: usize, seed: u64, n: u64) -> Run {
+    timed(kinds::original(kind, seed), |g| xored(g, n), |xor, g| [vec![xor], kinds::original_parts(g)].concat())
+}
+
+fn port_words(kind: usize, seed: u64, n: u64, call: Words) -> Run {
+    timed(kinds::lent(kind, seed), |g| call(&mut g.0, &mut g.1, n), |word, g| [vec![word.value], kinds::lent_parts(g)].concat())
 }
 
 #[inline(never)]
@@ -33,7 +71,7 @@ fn summed(g: &mut vrd_original::Random, n: u64) -> u64 {
 }
 
 /// The words used are counted afterwards: so many words bring the generator from where it began to where it stands.
-fn original(kind: usize, seed: u64, n: u64) -> Run {
+fn original_draws(kind: usize, seed: u64, n: u64) -> Run {
     timed(
         kinds::original(kind, seed),
         |g| summed(g, n),
@@ -51,14 +89,10 @@ fn original(kind: usize, seed: u64, n: u64) -> Run {
     )
 }
 
-fn port_loop(kind: usize, seed: u64, n: u64, call: Loop) -> Run {
+fn port_draws(kind: usize, seed: u64, n: u64, call: Draws) -> Run {
     timed(
         kinds::lent(kind, seed),
-        |g| {
-            let sums = call(g.0, &mut g.1, BOUND, BUDGET, n);
-            g.0 = sums.next;
-            sums
-        },
+        |g| call(&mut g.0, &mut g.1, BOUND, BUDGET, n),
         |sums, g| [vec![sums.sum, sums.used], kinds::lent_parts(g)].concat(),
     )
 }

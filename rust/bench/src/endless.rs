@@ -12,9 +12,7 @@ pub fn line() -> Result<String, String> {
     let answer = unit.bounded(3, u32::MAX);
     let seconds = start.elapsed().as_secs_f64();
     if answer != Err(Refusal::Budget) || unit != before {
-        return Err(format!(
-            "the draw without a good word answers {answer:?}, and not a refusal that leaves its generator"
-        ));
+        return Err(format!("the draw without a good word answers {answer:?}, and not a refusal that leaves its generator"));
     }
     Ok(format!("below 3 from the all-zero Xoshiro256PlusPlus, budget 2^32 - 1: refused with 8 after {seconds:.1} s"))
 }

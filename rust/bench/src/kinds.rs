@@ -1,6 +1,6 @@
 //! The four kinds on both sides, made from one seed, and their parts as plain numbers.
 
-use port::{Parts, Table};
+use port::{State, Table};
 use vrd_original::RngBackend;
 
 /// The names of the kinds 0 to 3.
@@ -27,15 +27,15 @@ pub fn port(kind: usize, seed: u64) -> vrd::Random {
 }
 
 /// The port's, as the exports take it.
-pub fn lent(kind: usize, seed: u64) -> (Parts, Table) {
-    let mut table = [0; 624];
-    let parts = match kind {
-        0 => port::vrd_xoshiro_with_seed(seed),
-        1 => port::vrd_mersenne_twister_with_seed(seed as u32, &mut table),
-        2 => port::vrd_pcg32_with_seed(seed),
-        _ => port::vrd_pcg64_with_seed(u128::from(seed).into()),
-    };
-    (parts, table)
+pub fn lent(kind: usize, seed: u64) -> (State, Table) {
+    let (mut state, mut table) = ([0; 6], [0; 624]);
+    match kind {
+        0 => port::vrd_xoshiro_with_seed_in(&mut state, seed),
+        1 => port::vrd_mersenne_twister_with_seed_in(&mut state, &mut table, seed as u32),
+        2 => port::vrd_pcg32_with_seed_in(&mut state, seed),
+        _ => port::vrd_pcg64_with_seed_in(&mut state, u128::from(seed).into()),
+    }
+    (state, table)
 }
 
 fn twister(table: &Table, mti: u64) -> Vec<u64> {
@@ -68,11 +68,11 @@ pub fn port_parts(g: &vrd::Random) -> Vec<u64> {
 }
 
 /// The same parts as the exports have them.
-pub fn lent_parts((parts, table): &(Parts, Table)) -> Vec<u64> {
-    let Parts { kind, mti, words } = *parts;
+pub fn lent_parts((state, table): &(State, Table)) -> Vec<u64> {
+    let [kind, mti, words @ ..] = state;
     match kind {
-        1 => twister(table, mti.into()),
+        1 => twister(table, *mti),
         2 => words[..2].into(),
-        _ => words.into(),
+        _ => words[..].into(),
     }
 }

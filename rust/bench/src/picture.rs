@@ -1,6 +1,6 @@
 //! The table as a picture: for each thing that is timed a group of bars, two for each kind.
 
-use crate::timing::Line;
+use crate::timing::{Limit, Line};
 use std::fmt::Write;
 
 const ROW: usize = 13;
@@ -14,18 +14,13 @@ pub fn svg(lines: &[Line], title: &str) -> String {
     let mut y = 40;
     for group in lines.chunk_by(|a, b| a.what == b.what) {
         let longest = group.iter().map(|line| line.original.max(line.port)).fold(0.0, f64::max);
-        let _ = writeln!(
-            body,
-            r#"<text x="10" y="{}" font-weight="bold">{} (ns per {})</text>"#,
-            y + 10,
-            group[0].what,
-            group[0].unit
-        );
+        let _ = writeln!(body, r#"<text x="10" y="{}" font-weight="bold">{} (ns per {})</text>"#, y + 10, group[0].what, group[0].unit);
         y += 16;
         for line in group {
             let _ = writeln!(body, r#"<text x="{}" y="{}" text-anchor="end">{}</text>"#, LEFT - 6.0, y + 14, line.kind);
             bar(&mut body, y, line.original, longest, "#9aa5b1", "original");
-            bar(&mut body, y + ROW, line.port, longest, "#2f6f9f", "port");
+            let side = if matches!(line.limit, Limit::Peer) { "peer" } else { "port" };
+            bar(&mut body, y + ROW, line.port, longest, "#2f6f9f", side);
             y += 2 * ROW + 5;
         }
         y += GAP - 16;

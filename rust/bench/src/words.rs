@@ -1,6 +1,6 @@
 //! Words in a row: the original's own loop over each generator, and the loop that the port exports.
 
-use crate::timing::{timed, Case, Run};
+use crate::timing::{timed, Case, Limit, Run};
 use port::{MersenneTwister, Wide};
 use vrd_original::pcg::{Pcg32, Pcg64};
 use vrd_original::xoshiro::Xoshiro256PlusPlus;
@@ -10,39 +10,23 @@ const WHAT: &str = "word, loop";
 /// The generators' own words: 64 bits of kinds 0 and 3, 32 bits of kinds 1 and 2; and the twister by value, which copies its table in and
 /// out at each word and so gets fewer of them.
 pub fn cases(seed: u64, words: u64) -> Vec<Case> {
-    let fewer = words / 10;
-    let case = |what, kind, count, original: Box<dyn Fn() -> Run>, port: Box<dyn Fn() -> Run>| Case {
+    let case = |what, kind, count, limit, original: fn(u64, u64) -> Run, port: fn(u64, u64) -> Run| Case {
         what,
         kind,
         count,
         unit: "word",
-        original,
-        port,
+        limit,
+        original: Box::new(move || original(seed, count)),
+        port: Box::new(move || port(seed, count)),
     };
+    let in_loop = |kind, original, port| case(WHAT, kind, words, Limit::Times(1.25), original, port);
+    let by_value = Limit::Nanoseconds(200.0);
     vec![
-        case(
-            WHAT,
-            "Xoshiro256PlusPlus",
-            words,
-            Box::new(move || xoshiro(seed, words)),
-            Box::new(move || port_xoshiro(seed, words)),
-        ),
-        case(
-            WHAT,
-            "MersenneTwister",
-            words,
-            Box::new(move || twister(seed, words)),
-            Box::new(move || port_twister(seed, words)),
-        ),
-        case(WHAT, "Pcg32", words, Box::new(move || pcg32(seed, words)), Box::new(move || port_pcg32(seed, words))),
-        case(WHAT, "Pcg64", words, Box::new(move || pcg64(seed, words)), Box::new(move || port_pcg64(seed, words))),
-        case(
-            "word, loop by value",
-            "MersenneTwister",
-            fewer,
-            Box::new(move || twister(seed, fewer)),
-            Box::new(move || port_twister_by_value(seed, fewer)),
-        ),
+        in_loop("Xoshiro256PlusPlus", xoshiro, port_xoshiro),
+        in_loop("MersenneTwister", twister, port_twister),
+        in_loop("Pcg32", pcg32, port_pcg32),
+        in_loop("Pcg64", pcg64, port_pcg64),
+        case("word, loop by value", "MersenneTwister", words / 10, by_value, twister, port_twister_by_value),
     ]
 }
 
@@ -52,17 +36,14 @@ fn xor<G>(g: &mut G, n: u64, next: impl Fn(&mut G) -> u64) -> u64 {
     (0..n).fold(0, |xor, _| xor ^ next(g))
 }
 
+/// The parts, and then the word.
 fn with(word: u64, mut parts: Vec<u64>) -> Vec<u64> {
     parts.push(word);
     parts
 }
 
 fn xoshiro(seed: u64, n: u64) -> Run {
-    timed(
-        Xoshiro256PlusPlus::from_u64_seed(seed),
-        |g| xor(g, n, Xoshiro256PlusPlus::next_u64),
-        |word, g| with(word, g.parts().into()),
-    )
+    timed(Xoshiro256PlusPlus::from_u64_seed(seed), |g| xor(g, n, Xoshiro256PlusPlus::next_u64), |word, g| with(word, g.parts().into()))
 }
 
 fn port_xoshiro(seed: u64, n: u64) -> Run {
@@ -73,23 +54,15 @@ fn port_xoshiro(seed: u64, n: u64) -> Run {
     )
 }
 
-fn pcg32(seed: u64, n: u64) -> Run {
-    timed(
-        Pcg32::from_u64_seed(seed),
-        |g| xor(g, n, |g| g.next_u32().into()),
-        |word, g| with(word, <[u64; 2]>::from(g.parts()).into()),
-    )
+pub fn pcg32(seed: u64, n: u64) -> Run {
+    timed(Pcg32::from_u64_seed(seed), |g| xor(g, n, |g| g.next_u32().into()), |word, g| with(word, <[u64; 2]>::from(g.parts()).into()))
 }
 
 fn port_pcg32(seed: u64, n: u64) -> Run {
-    timed(
-        port::pcg32_from_u64_seed(seed),
-        |g| port::pcg32_words(*g, n),
-        |d, _| with(d.word.into(), vec![d.next.state, d.next.inc]),
-    )
+    timed(port::pcg32_from_u64_seed(seed), |g| port::pcg32_words(*g, n), |d, _| with(d.word.into(), vec![d.next.state, d.next.inc]))
 }
 
-fn pcg64(seed: u64, n: u64) -> Run {
+pub fn pcg64(seed: u64, n: u64) -> Run {
     timed(
         Pcg64::from_u128_seed(seed.into()),
         |g| xor(g, n, Pcg64::next_u64),
@@ -108,7 +81,7 @@ fn port_pcg64(seed: u64, n: u64) -> Run {
     )
 }
 
-fn twister(seed: u64, n: u64) -> Run {
+pub fn twister(seed: u64, n: u64) -> Run {
     let mut generator = vrd_original::MersenneTwister::new();
     generator.seed(seed as u32);
     timed(
@@ -139,9 +112,5 @@ fn port_twister(seed: u64, n: u64) -> Run {
 
 /// Each word through the call that takes the whole generator and hands it back.
 fn port_twister_by_value(seed: u64, n: u64) -> Run {
-    timed(
-        port::mt_value_seed(seed as u32),
-        |g| port::mt_value_words(g.clone(), n),
-        |d, _| twister_parts(d.word, &d.next),
-    )
+    timed(port::mt_value_seed(seed as u32), |g| port::mt_value_words(g.clone(), n), |d, _| twister_parts(d.word, &d.next))
 }

@@ -1,11 +1,14 @@
 //! The facade on both sides, the port's through the package vrd: how a generator of the original reads as the port's, and the
-//! comparisons over all kinds.
+//! comparisons over all kinds. What is lent stands between guard words.
 
 mod boundary;
+mod by_value;
 mod chances;
 mod draws;
+mod exported;
 mod filling;
 mod intervals;
+mod lent;
 mod lists;
 mod making;
 mod numbers;
@@ -15,6 +18,7 @@ mod starts;
 mod state;
 mod words;
 
+use crate::fence::Fenced;
 use crate::tally::Tally;
 use vrd::Parts;
 use vrd_original::{Random as Original, RngBackend};
@@ -33,6 +37,7 @@ pub fn compare(tally: &mut Tally) {
     lists::compare(tally);
     refused::compare(tally);
     boundary::compare(tally);
+    by_value::compare(tally);
 }
 
 /// The parts of the original's generator, as the port reads its own.
@@ -55,7 +60,17 @@ fn parts(g: &Original) -> Parts<'_> {
     }
 }
 
+/// The port's generator between guard words.
+type Port = Fenced<vrd::Random>;
+
+impl Port {
+    /// Its parts, the guard words looked at.
+    fn parts(&self) -> Parts<'_> {
+        self.checked().parts()
+    }
+}
+
 /// The port's generator with the parts of the original's.
-fn port_of(g: &Original) -> vrd::Random {
-    vrd::Random::from_parts(parts(g))
+fn port_of(g: &Original) -> Port {
+    Fenced::new(vrd::Random::from_parts(parts(g)))
 }

@@ -1,9 +1,10 @@
 //! Compares the port with the original Rust. Each generator through its own exports: makers, single steps, loops of words, jump,
-//! twist, set_mti and states set by hand. The facade over them through the package vrd: every call, on every kind, and the
-//! exports of the facade where that package can't ask. Progress goes to standard error, the table to standard output; the status
-//! is not 0 where anything differs.
+//! twist, set_mti and states set by hand. The facade over them through the package vrd: every call, on every kind; the exports of the
+//! facade where that package can't ask; and the library's calls by value in a row. Progress goes to standard error, the table to standard
+//! output; the status is not 0 where anything differs.
 
 mod facade;
+mod fence;
 mod pcg32;
 mod pcg64;
 mod seeds;

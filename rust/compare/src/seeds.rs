@@ -1,29 +1,10 @@
 //! Seeds to compare the makers with: the edges of each width, then pseudo-random ones.
 
+use simple::Simple;
 use std::iter::repeat_with;
 
 /// Seeds for each maker.
 const COUNT: usize = 1_000;
-
-/// Marsaglia's xorshift64, which is none of the four generators compared.
-pub struct Simple(u64);
-
-impl Simple {
-    pub fn new(start: u64) -> Self {
-        Self(start.max(1))
-    }
-
-    pub fn next(&mut self) -> u64 {
-        self.0 ^= self.0 << 13;
-        self.0 ^= self.0 >> 7;
-        self.0 ^= self.0 << 17;
-        self.0
-    }
-
-    pub fn next_wide(&mut self) -> u128 {
-        (u128::from(self.next()) << 64) | u128::from(self.next())
-    }
-}
 
 /// 128-bit numbers: 0, the largest, each power of two and its neighbours' edges, then pseudo-random ones.
 pub fn wide() -> Vec<u128> {
@@ -31,7 +12,7 @@ pub fn wide() -> Vec<u128> {
     numbers.extend((0..128).map(|k| 1u128 << k));
     numbers.extend((1..128).map(|k| (1u128 << k) - 1));
     let mut simple = Simple::new(128);
-    numbers.extend(repeat_with(|| simple.next_wide()).take(COUNT - numbers.len()));
+    numbers.extend(repeat_with(|| simple.wide()).take(COUNT - numbers.len()));
     numbers
 }
 
@@ -41,7 +22,7 @@ pub fn long() -> Vec<u64> {
     numbers.extend((0..64).map(|k| 1u64 << k));
     numbers.extend((1..64).map(|k| (1u64 << k) - 1));
     let mut simple = Simple::new(64);
-    numbers.extend(repeat_with(|| simple.next()).take(COUNT - numbers.len()));
+    numbers.extend(repeat_with(|| simple.long()).take(COUNT - numbers.len()));
     numbers
 }
 
@@ -51,7 +32,7 @@ pub fn short() -> Vec<u32> {
     numbers.extend((0..32).map(|k| 1u32 << k));
     numbers.extend((1..32).map(|k| (1u32 << k) - 1));
     let mut simple = Simple::new(32);
-    numbers.extend(repeat_with(|| (simple.next() >> 32) as u32).take(COUNT - numbers.len()));
+    numbers.extend(repeat_with(|| simple.word()).take(COUNT - numbers.len()));
     numbers
 }
 
@@ -75,6 +56,6 @@ pub fn bytes<const N: usize>() -> Vec<[u8; N]> {
         }
     }
     let mut simple = Simple::new(N as u64);
-    seeds.extend(repeat_with(|| [0; N].map(|_| simple.next() as u8)).take(COUNT - seeds.len()));
+    seeds.extend(repeat_with(|| [0; N].map(|_| simple.long() as u8)).take(COUNT - seeds.len()));
     seeds
 }

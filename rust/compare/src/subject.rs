@@ -1,8 +1,8 @@
 //! One generator on both sides, and the comparisons that are the same for all of them.
 
-use crate::seeds::Simple;
 use crate::tally::{Row, Tally};
 use crate::{LOOP_WORDS, STEP_WORDS};
+use simple::Simple;
 use std::fmt::Debug;
 
 /// Words drawn one by one from each state that is set by hand: past two twists of the twister.
@@ -103,7 +103,7 @@ impl<O: Clone, P: Clone + PartialEq + Debug> Subject<O, P> {
         let first = [0, 1, 2, 0, 623, 624, 625];
         let mut left = total;
         for k in 0.. {
-            let length = first.get(k).copied().unwrap_or_else(|| lengths.next() % 4_096).min(left);
+            let length = first.get(k).copied().unwrap_or_else(|| lengths.long() % 4_096).min(left);
             self.chunk(row, words, &mut one, &mut other, length);
             left -= length;
             if left == 0 {

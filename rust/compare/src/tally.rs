@@ -84,11 +84,7 @@ impl Tally {
 impl fmt::Display for Tally {
     fn fmt(&self, f: &mut fmt::Formatter<'_>) -> fmt::Result {
         let (call, kind) = ("call", "kind");
-        writeln!(
-            f,
-            "{call:<48} {kind:<20} {:>9} {:>10} {:>20} {:>11}",
-            "cases", "words", "with a rejected word", "differences"
-        )?;
+        writeln!(f, "{call:<48} {kind:<20} {:>9} {:>10} {:>20} {:>11}", "cases", "words", "with a rejected word", "differences")?;
         for row in &self.rows {
             let Row { call, kind, cases, words, rejected, differences } = row;
             writeln!(f, "{call:<48} {kind:<20} {cases:>9} {words:>10} {rejected:>20} {differences:>11}")?;

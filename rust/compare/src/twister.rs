@@ -1,9 +1,10 @@
 //! The Mersenne Twister in both forms, lent and by value: makers, words, twist, set_mti, loops and every position's edge.
 
-use crate::seeds::{self, Simple};
+use crate::seeds;
 use crate::subject::{Step, Subject, Words};
 use crate::tally::Tally;
 use port::Table;
+use simple::Simple;
 use vrd_original::MersenneTwister as Original;
 
 type Port = port::MersenneTwister;
@@ -113,7 +114,7 @@ fn tables() -> Vec<Table> {
     only_last[623] = 1;
     tables.extend([only_first, only_last, seeded(5489).mt]);
     let mut simple = Simple::new(624);
-    tables.extend([(); 4].map(|()| [0; 624].map(|_: u32| simple.next() as u32)));
+    tables.extend([(); 4].map(|()| [0; 624].map(|_: u32| simple.long() as u32)));
     tables
 }
 

@@ -1,5 +1,5 @@
-//! The wrapping helpers against the Rust's own: products, rotations by every amount, and numbers of 128 bits. Each pairs the edges of its width
-//! with one another.
+//! The wrapping helpers against the Rust's own: products, rotations by every amount, and numbers of 128 bits. Each pairs the edges of its
+//! width with one another.
 
 use crate::seeds;
 use crate::tally::Tally;
@@ -13,22 +13,12 @@ pub fn compare(tally: &mut Tally) {
     let (short, long, wide) = (&seeds::short()[..PAIRED], &seeds::long()[..PAIRED], &seeds::wide()[..PAIRED]);
     pairs(tally, "product modulo 2^32", short, u32::wrapping_mul, |a, b| port::wrapping_mul_u32(a, b));
     pairs(tally, "product modulo 2^64", long, u64::wrapping_mul, |a, b| port::wrapping_mul_u64(a, b));
-    pairs(tally, "sum modulo 2^128", wide, u128::wrapping_add, |a, b| {
-        port::wrapping_add_wide(a.into(), b.into()).into()
-    });
-    pairs(tally, "product modulo 2^128", wide, u128::wrapping_mul, |a, b| {
-        port::wrapping_mul_wide(a.into(), b.into()).into()
-    });
-    rotations(tally, "rotations of 32 bits, left", short, u32::rotate_left, |x, k| {
-        port::wrapping_rotate_left_u32(x, k)
-    });
-    rotations(tally, "rotations of 32 bits, right", short, u32::rotate_right, |x, k| {
-        port::wrapping_rotate_right_u32(x, k)
-    });
+    pairs(tally, "sum modulo 2^128", wide, u128::wrapping_add, |a, b| port::wrapping_add_wide(a.into(), b.into()).into());
+    pairs(tally, "product modulo 2^128", wide, u128::wrapping_mul, |a, b| port::wrapping_mul_wide(a.into(), b.into()).into());
+    rotations(tally, "rotations of 32 bits, left", short, u32::rotate_left, |x, k| port::wrapping_rotate_left_u32(x, k));
+    rotations(tally, "rotations of 32 bits, right", short, u32::rotate_right, |x, k| port::wrapping_rotate_right_u32(x, k));
     rotations(tally, "rotations of 64 bits, left", long, u64::rotate_left, |x, k| port::wrapping_rotate_left_u64(x, k));
-    rotations(tally, "rotations of 64 bits, right", long, u64::rotate_right, |x, k| {
-        port::wrapping_rotate_right_u64(x, k)
-    });
+    rotations(tally, "rotations of 64 bits, right", long, u64::rotate_right, |x, k| port::wrapping_rotate_right_u64(x, k));
 }
 
 /// An operation on each pair of these numbers.

@@ -43,8 +43,7 @@ const SUBJECT: Subject<Original, Port> = Subject {
 
 pub fn compare(tally: &mut Tally) {
     let numbers = seeds::long();
-    SUBJECT
-        .maker(tally, "xoshiro_from_u64_seed", &numbers, Original::from_u64_seed, |n| port::xoshiro_from_u64_seed(n));
+    SUBJECT.maker(tally, "xoshiro_from_u64_seed", &numbers, Original::from_u64_seed, |n| port::xoshiro_from_u64_seed(n));
     let bytes = seeds::bytes::<32>();
     SUBJECT.maker(tally, "xoshiro_from_seed", &bytes, Original::from_seed, |seed| port::xoshiro_from_seed(&seed));
     let states = hand_set_states();

@@ -19,10 +19,7 @@ fn small() {
     sample32("pcg32.42-54-top-bit", Pcg32::from_seed_stream(42, 54 | 1 << 63));
     sample32("pcg32.42", Pcg32::from_u64_seed(42));
     for stream in [54, 55] {
-        sample32(
-            &format!("pcg32.bytes-42-{stream}"),
-            Pcg32::from_seed(join(42u64.to_le_bytes(), [stream, 0, 0, 0, 0, 0, 0, 0])),
-        );
+        sample32(&format!("pcg32.bytes-42-{stream}"), Pcg32::from_seed(join(42u64.to_le_bytes(), [stream, 0, 0, 0, 0, 0, 0, 0])));
     }
     for inc in [108, 109] {
         sample32(&format!("pcg32.state-7-increment-{inc}"), Pcg32::from_parts(7, inc));

@@ -1,6 +1,6 @@
 //! The names, arguments and answers of the exports: the one place to change when the Rattle crate `bench_ffi` does.
 
-use vrd::exports::{Table, Wide};
+use vrd::exports::{State, Table, Wide, Word};
 
 /// Four words.
 #[repr(C)]
@@ -50,6 +50,15 @@ pub struct Placed<W> {
     pub mti: u32,
 }
 
+/// The sums of the values and of the words used, modulo 2^64.
+#[repr(C)]
+#[derive(Clone, Copy, Debug, Eq, PartialEq)]
+pub struct Sums {
+    pub sum: u64,
+    pub used: u64,
+    pub refusal: u32,
+}
+
 unsafe extern "C" {
     pub safe fn wrapping_mul_u32(a: u32, b: u32) -> u32;
     pub safe fn wrapping_mul_u64(a: u64, b: u64) -> u64;
@@ -96,4 +105,16 @@ unsafe extern "C" {
     pub safe fn mt_value_seed(seed: u32) -> MersenneTwister;
     pub safe fn mt_value_rand(g: MersenneTwister) -> Drawn<u32, MersenneTwister>;
     pub safe fn mt_value_words(g: MersenneTwister, n: u64) -> Drawn<u32, MersenneTwister>;
+}
+
+// Loops over the facade: n words of 32 bits XORed, and n draws below a bound, each within the budget. A refused draw adds nothing. A kind
+// above 3 is refused with 10.
+unsafe extern "C" {
+    // Over the lent generator.
+    pub safe fn bench_words_in(state: &mut State, table: &mut Table, n: u64) -> Word<u64>;
+    pub safe fn bench_draws_in(state: &mut State, table: &mut Table, bound: u32, budget: u32, n: u64) -> Sums;
+
+    // Each word and draw by the library's call by value.
+    pub safe fn bench_words_by_value(state: &mut State, table: &mut Table, n: u64) -> Word<u64>;
+    pub safe fn bench_draws_by_value(state: &mut State, table: &mut Table, bound: u32, budget: u32, n: u64) -> Sums;
 }

@@ -82,19 +82,8 @@ impl Call {
             Call::U64 => g.u64(),
             Call::I64 => g.i64() as u64,
             Call::Pseudo => g.pseudo().into(),
-            Call::Seed => {
-                g.seed(first);
-                0
-            }
             Call::Mti => g.mti() as u64,
-            Call::SetMti => {
-                g.set_mti((first as usize).min(HIGHEST_STORED));
-                0
-            }
-            Call::Twist => {
-                g.twist();
-                0
-            }
+            Call::Seed | Call::SetMti | Call::Twist => self.changed(g, first),
             Call::FillBytes => filled(g, first),
             Call::Bounded => g.bounded(first).into(),
             Call::RandomRange => g.random_range(first, second).into(),
@@ -105,9 +94,7 @@ impl Call {
             Call::Float => f64::from(g.float()).to_bits(),
             Call::Double => g.double().to_bits(),
             Call::Bool => g.bool(f64::from_bits(joined(a[0], a[1]))).into(),
-            Call::Uniform => {
-                g.uniform(f64::from_bits(joined(a[0], a[1])), f64::from_bits(joined(a[2], a[3]))).to_bits()
-            }
+            Call::Uniform => g.uniform(f64::from_bits(joined(a[0], a[1])), f64::from_bits(joined(a[2], a[3]))).to_bits(),
             Call::Made => 0,
             Call::Words => Digest::words((0..first).map(|_| g.rand())),
             Call::Draws => Digest::words((0..first).map(|k| g.bounded(bound_at(k)))),
@@ -117,6 +104,16 @@ impl Call {
             Call::RandSlice => return sliced(g, first, second),
         };
         Answer { refusal: 0, value }
+    }
+
+    /// A call that changes the state and answers nothing.
+    fn changed(self, g: &mut Random, argument: u32) -> u64 {
+        match self {
+            Call::Seed => g.seed(argument),
+            Call::SetMti => g.set_mti((argument as usize).min(HIGHEST_STORED)),
+            _ => g.twist(),
+        }
+        0
     }
 }
 

@@ -60,9 +60,7 @@ mod tests {
     /// The authors' test vectors of FNV-1a, 64 bits.
     #[test]
     fn published_digests() {
-        for (text, digest) in
-            [("", 0xCBF2_9CE4_8422_2325), ("a", 0xAF63_DC4C_8601_EC8C), ("foobar", 0x8594_4171_F739_67E8)]
-        {
+        for (text, digest) in [("", 0xCBF2_9CE4_8422_2325), ("a", 0xAF63_DC4C_8601_EC8C), ("foobar", 0x8594_4171_F739_67E8)] {
             assert_eq!(Digest::bytes(text.as_bytes()), digest);
         }
         assert_eq!(Digest::words([u32::from_le_bytes(*b"foob")]), Digest::bytes(b"foob"));

@@ -4,8 +4,8 @@
 use crate::call::Call;
 use crate::row::{row, Allowance, Row};
 use crate::samples::bound;
-use crate::simple::Simple;
 use crate::start::{Maker, Start};
+use simple::Simple;
 
 pub fn files() -> Vec<(String, Vec<Row>)> {
     [
@@ -106,7 +106,6 @@ fn folded_to_zero() -> Vec<Row> {
 /// 10^6 words and 10^5 draws of each kind.
 fn long_runs() -> Vec<Row> {
     let runs = [(Call::Words, 1_000_000), (Call::Draws, 100_000)];
-    let of_kind =
-        |kind| runs.map(|(call, count)| row(call, Start::seed(kind, 42), [count, 0, 0, 0], Allowance::Exactly));
+    let of_kind = |kind| runs.map(|(call, count)| row(call, Start::seed(kind, 42), [count, 0, 0, 0], Allowance::Exactly));
     (0..4).flat_map(of_kind).collect()
 }

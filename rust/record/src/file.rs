@@ -12,6 +12,9 @@ pub fn write(path: &Path, rows: &[Row]) -> std::io::Result<usize> {
     let words = header.iter().chain(rows.iter().flatten());
     let bytes: Vec<u8> = words.flat_map(|word| word.to_le_bytes()).collect();
     assert!(bytes.len() <= MOST, "{} is too long", path.display());
-    std::fs::write(path, &bytes)?;
+    // A file that has these bytes keeps its date, so that nothing is proved again for it.
+    if !std::fs::read(path).is_ok_and(|found| found == bytes) {
+        std::fs::write(path, &bytes)?;
+    }
     Ok(bytes.len())
 }

@@ -7,7 +7,6 @@ mod edges;
 mod file;
 mod row;
 mod samples;
-mod simple;
 mod start;
 
 use std::path::Path;

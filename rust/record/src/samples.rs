@@ -2,8 +2,8 @@
 
 use crate::call::Call;
 use crate::row::{row, Allowance, Row};
-use crate::simple::Simple;
 use crate::start::{Maker, Start};
+use simple::Simple;
 
 /// Rows of each kind in a call's file.
 const ROWS: usize = 30;
@@ -22,9 +22,7 @@ const CALLS: [(&str, Call, Arguments); 23] = [
     ("seed", Call::Seed, |turn, simple| [edge(turn, simple), 0, 0, 0]),
     ("split", Call::Split, nothing),
     ("mti", Call::Mti, nothing),
-    ("set_mti", Call::SetMti, |turn, simple| {
-        [[0, 1, 226, 227, 623, 624].get(turn).copied().unwrap_or_else(|| simple.below(625)), 0, 0, 0]
-    }),
+    ("set_mti", Call::SetMti, |turn, simple| [[0, 1, 226, 227, 623, 624].get(turn).copied().unwrap_or_else(|| simple.below(625)), 0, 0, 0]),
     ("twist", Call::Twist, nothing),
     ("fill_bytes", Call::FillBytes, |turn, _| [(turn * turn * 3 - turn) as u32 / 2 % 2_600, 0, 0, 0]),
     ("bounded", Call::Bounded, |turn, simple| [bound(turn, simple), 0, 0, 0]),
@@ -72,12 +70,7 @@ pub fn calls() -> Vec<(String, Vec<Row>)> {
 
 /// The files of the makers: the generator as it is made.
 pub fn makers() -> Vec<(String, Vec<Row>)> {
-    let makers = [
-        ("seeds", Maker::Seed, 0),
-        ("streams", Maker::Stream, 2),
-        ("bytes", Maker::Bytes, 0),
-        ("parts", Maker::Parts, 0),
-    ];
+    let makers = [("seeds", Maker::Seed, 0), ("streams", Maker::Stream, 2), ("bytes", Maker::Bytes, 0), ("parts", Maker::Parts, 0)];
     let file = |(name, maker, first_kind): (&str, Maker, u32)| {
         let mut simple = Simple::new(100 + maker as u64);
         let mut rows = Vec::new();
@@ -149,7 +142,7 @@ fn length(turn: usize, simple: &mut Simple) -> u32 {
 /// A chance: both ends, the least and the greatest between them, and any others.
 fn chance(turn: usize, simple: &mut Simple) -> f64 {
     let edges = [0.0, -0.0, 1.0, 0.5, f64::MIN_POSITIVE, 5e-324, 1.0 - f64::EPSILON / 2.0];
-    edges.get(turn).copied().unwrap_or_else(|| (simple.next() >> 11) as f64 / (1u64 << 53) as f64)
+    edges.get(turn).copied().unwrap_or_else(|| (simple.long() >> 11) as f64 / (1u64 << 53) as f64)
 }
 
 /// An interval: next neighbours, subnormal, of both signs, as wide as may be, and any others that the port takes.
@@ -165,7 +158,7 @@ fn interval(turn: usize, simple: &mut Simple) -> (f64, f64) {
         (-1e-300, 1e300),
     ];
     edges.get(turn).copied().unwrap_or_else(|| loop {
-        let (low, high) = (f64::from_bits(simple.next()), f64::from_bits(simple.next()));
+        let (low, high) = (f64::from_bits(simple.long()), f64::from_bits(simple.long()));
         if low < high && (high - low).is_finite() {
             return (low, high);
         }

@@ -1,6 +1,6 @@
 //! The generator before a call, in a few words: kind, maker, words skipped, and the maker's eight words.
 
-use crate::simple::Simple;
+use simple::Simple;
 use vrd_original::pcg::{Pcg32, Pcg64};
 use vrd_original::rand_core::SeedableRng;
 use vrd_original::xoshiro::Xoshiro256PlusPlus;
@@ -53,7 +53,8 @@ impl Start {
         }
     }
 
-    /// Any words, one maker after the other, some words skipped; each fifth time the first word is 0. The twister's position is 624 at most.
+    /// Any words, one maker after the other, some words skipped; each fifth time the first word is 0. The twister's position is 624 or
+    /// less.
     pub fn any(kind: u32, turn: usize, simple: &mut Simple) -> Self {
         if turn % 5 == 4 {
             return Self::zero_first(kind, simple);
@@ -89,9 +90,7 @@ impl Start {
             (2, Maker::Bytes) => RngBackend::Pcg32(Pcg32::from_seed(self.bytes())),
             (2, Maker::Parts) => RngBackend::Pcg32(Pcg32::from_parts(long(0), long(1))),
             (_, Maker::Seed) => RngBackend::Pcg64(Pcg64::from_u128_seed(wide(long(0), long(1)))),
-            (_, Maker::Stream) => {
-                RngBackend::Pcg64(Pcg64::from_seed_stream(wide(long(0), long(1)), wide(long(2), long(3))))
-            }
+            (_, Maker::Stream) => RngBackend::Pcg64(Pcg64::from_seed_stream(wide(long(0), long(1)), wide(long(2), long(3)))),
             (_, Maker::Bytes) => RngBackend::Pcg64(Pcg64::from_seed(self.bytes())),
             (_, Maker::Parts) => RngBackend::Pcg64(Pcg64::from_parts(wide(long(1), long(0)), wide(long(3), long(2)))),
         }

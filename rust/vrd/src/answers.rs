@@ -27,8 +27,14 @@ pub(crate) fn drawn<T>(refusal: u32, value: T, used: u32) -> Result<Drawn<T>, Re
     Refusal::or(refusal, Drawn { value, used })
 }
 
-/// The answer of an export that draws a number.
+/// The answer of an export that draws a number of 32 bits.
 #[inline]
-pub(crate) fn number<N>(answer: exports::Number<N>) -> Result<Drawn<N>, Refusal> {
+pub(crate) fn number(answer: exports::Number) -> Result<Drawn<u32>, Refusal> {
+    drawn(answer.refusal, answer.value as u32, answer.used)
+}
+
+/// The answer of an export that draws a signed number or a bool.
+#[inline]
+pub(crate) fn small<V>(answer: exports::Small<V>) -> Result<Drawn<V>, Refusal> {
     drawn(answer.refusal, answer.value, answer.used)
 }

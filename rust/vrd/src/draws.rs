@@ -1,6 +1,6 @@
 //! Numbers drawn within a budget of words: below a bound, between two ends, a letter.
 
-use crate::answers::{drawn, number};
+use crate::answers::{number, small};
 use crate::{exports, Drawn, Random, Refusal};
 
 /// # Draws within a budget
@@ -33,9 +33,7 @@ impl Random {
     /// Refused where the bound is 0 ([`Refusal::ZeroRange`]).
     #[inline]
     pub fn bounded(&mut self, bound: u32, budget: u32) -> Result<Drawn<u32>, Refusal> {
-        let exports::Parts { kind, mti, words } = &mut self.small;
-        let answer = exports::vrd_bounded_in_place(*kind, mti, words, &mut self.table, bound, budget);
-        drawn(answer.refusal, answer.value, answer.used)
+        number(exports::vrd_bounded_in(&mut self.state, &mut self.table, bound, budget))
     }
 
     /// A number from `min` up to `max - 1`.
@@ -43,9 +41,7 @@ impl Random {
     /// Refused where `min` is not below `max` ([`Refusal::Order`]).
     #[inline]
     pub fn random_range(&mut self, min: u32, max: u32, budget: u32) -> Result<Drawn<u32>, Refusal> {
-        let answer = exports::vrd_random_range(self.small, &mut self.table, min, max, budget);
-        self.small = answer.next;
-        number(answer)
+        number(exports::vrd_random_range_in(&mut self.state, &mut self.table, min, max, budget))
     }
 
     /// A number from `min` up to `max`, both included. Equal ends need no word; over all 2^32 numbers it is one word as it comes.
@@ -53,33 +49,26 @@ impl Random {
     /// Refused where `min` is above `max` ([`Refusal::Order`]).
     #[inline]
     pub fn int(&mut self, min: i32, max: i32, budget: u32) -> Result<Drawn<i32>, Refusal> {
-        let answer = exports::vrd_int(self.small, &mut self.table, min, max, budget);
-        self.small = answer.next;
-        number(answer)
+        small(exports::vrd_int_in(&mut self.state, &mut self.table, min, max, budget))
     }
 
     /// [`Random::int`] by its other name.
     #[inline]
     pub fn range(&mut self, min: i32, max: i32, budget: u32) -> Result<Drawn<i32>, Refusal> {
-        let answer = exports::vrd_range(self.small, &mut self.table, min, max, budget);
-        self.small = answer.next;
-        number(answer)
+        small(exports::vrd_range_in(&mut self.state, &mut self.table, min, max, budget))
     }
 
     /// [`Random::int`] over numbers without a sign.
     #[inline]
     pub fn uint(&mut self, min: u32, max: u32, budget: u32) -> Result<Drawn<u32>, Refusal> {
-        let answer = exports::vrd_uint(self.small, &mut self.table, min, max, budget);
-        self.small = answer.next;
-        number(answer)
+        number(exports::vrd_uint_in(&mut self.state, &mut self.table, min, max, budget))
     }
 
     /// A letter from `'a'` to `'z'`.
     #[inline]
     pub fn char(&mut self, budget: u32) -> Result<Drawn<char>, Refusal> {
-        let answer = exports::vrd_char(self.small, &mut self.table, budget);
-        self.small = answer.next;
+        let letter = number(exports::vrd_char_in(&mut self.state, &mut self.table, budget));
         // The export answers the letter's ASCII code, from 97 to 122.
-        number(answer).map(|drawn| Drawn { value: char::from(drawn.value as u8), used: drawn.used })
+        letter.map(|drawn| Drawn { value: char::from(drawn.value as u8), used: drawn.used })
     }
 }

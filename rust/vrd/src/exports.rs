@@ -1,6 +1,10 @@
-//! The names, arguments and answers of the facade's exports: the one place to change when the Rattle crate `vrd_ffi` does, and
-//! the only one with unsafe code. The exports are proved total: they ask nothing of a caller beyond the types of their
-//! arguments. That is why they are declared as safe functions, but for those that take a slice by its address.
+//! The names, arguments and answers of the exports of the Rattle crate `vrd_ffi`: the one place to change when that crate does, and the
+//! only one with unsafe code. An export takes the generator as two lent arrays and changes them there. The exports are proved total: they
+//! ask nothing of a caller beyond the types of their arguments. That is why they are declared as safe functions, but for those that take
+//! a slice by its address.
+
+/// A generator without its table: the kind, the twister's position (of which the low 32 bits count), and the kind's four small words.
+pub type State = [u64; 6];
 
 /// The twister's table.
 pub type Table = [u32; 624];
@@ -25,65 +29,40 @@ impl From<Wide> for u128 {
     }
 }
 
-/// A generator without its table: the kind, the twister's position and the kind's small words. The export's struct has these as
-/// four fields, which lie in memory as an array does.
-#[repr(C)]
-#[derive(Clone, Copy, Debug, Eq, PartialEq)]
-pub struct Parts {
-    pub kind: u32,
-    pub mti: u32,
-    pub words: [u64; 4],
-}
-
-/// A word or a number, and the generator after it.
+/// A word or a float. The export's names are Word, SignedWord, Number32 and Number64.
 #[repr(C)]
 #[derive(Clone, Copy, Debug, PartialEq)]
-pub struct Word<W> {
+pub struct Word<V> {
+    pub value: V,
     pub refusal: u32,
-    pub word: W,
-    pub next: Parts,
 }
 
-/// A word of a generator that has moved in place.
+/// A number drawn within a budget, and the words used.
 #[repr(C)]
 #[derive(Clone, Copy, Debug, PartialEq)]
-pub struct MovedWord<W> {
-    pub refusal: u32,
-    pub word: W,
-}
-
-/// A number drawn within a budget, and the words used, of a generator that has moved in place.
-#[repr(C)]
-#[derive(Clone, Copy, Debug, PartialEq)]
-pub struct MovedNumber {
-    pub refusal: u32,
-    pub value: u32,
+pub struct Number {
+    pub value: u64,
     pub used: u32,
+    pub refusal: u32,
 }
 
-/// The generator after a call that answers nothing else.
+/// The same with a signed number or a bool. The export's names are Integer and Coin.
 #[repr(C)]
 #[derive(Clone, Copy, Debug, PartialEq)]
-pub struct Moved {
+pub struct Small<V> {
+    pub used: u32,
     pub refusal: u32,
-    pub next: Parts,
+    pub value: V,
 }
 
-/// The two generators of one.
+/// An entry with its place, and the words used.
 #[repr(C)]
 #[derive(Clone, Copy, Debug, PartialEq)]
-pub struct Divided {
+pub struct Choice {
+    pub place: u64,
+    pub value: u64,
+    pub used: u32,
     pub refusal: u32,
-    pub parent: Parts,
-    pub child: Parts,
-}
-
-/// A position.
-#[repr(C)]
-#[derive(Clone, Copy, Debug, PartialEq)]
-pub struct Position {
-    pub refusal: u32,
-    pub mti: u32,
 }
 
 /// Whether two generators are equal.
@@ -94,150 +73,81 @@ pub struct Equality {
     pub equal: bool,
 }
 
-/// A generator made.
-#[repr(C)]
-#[derive(Clone, Copy, Debug, PartialEq)]
-pub struct Made {
-    pub refusal: u32,
-    pub generator: Parts,
-}
-
-/// A bool, the words used, and the generator after them.
-#[repr(C)]
-#[derive(Clone, Copy, Debug, PartialEq)]
-pub struct Coin {
-    pub refusal: u32,
-    pub used: u32,
-    pub value: bool,
-    pub next: Parts,
-}
-
-/// A number drawn within a budget, the words used, and the generator after them.
-#[repr(C)]
-#[derive(Clone, Copy, Debug, PartialEq)]
-pub struct Number<N> {
-    pub refusal: u32,
-    pub value: N,
-    pub used: u32,
-    pub next: Parts,
-}
-
-/// An entry, the words used, its place, and the generator after them.
-#[repr(C)]
-#[derive(Clone, Copy, Debug, PartialEq)]
-pub struct Chosen {
-    pub refusal: u32,
-    pub value: u32,
-    pub used: u32,
-    pub place: usize,
-    pub next: Parts,
-}
-
-/// The words used, where a part starts, and the generator after them.
-#[repr(C)]
-#[derive(Clone, Copy, Debug, PartialEq)]
-pub struct Started {
-    pub refusal: u32,
-    pub used: u32,
-    pub start: usize,
-    pub next: Parts,
-}
-
-/// The words used for a new order, and the generator after them.
-#[repr(C)]
-#[derive(Clone, Copy, Debug, PartialEq)]
-pub struct Ordered {
-    pub refusal: u32,
-    pub used: u32,
-    pub next: Parts,
-}
-
 unsafe extern "C" {
-    pub safe fn vrd_xoshiro_with_seed(seed: u64) -> Parts;
-    pub safe fn vrd_mersenne_twister_with_seed(seed: u32, table: &mut Table) -> Parts;
-    pub safe fn vrd_pcg32_with_seed(seed: u64) -> Parts;
-    pub safe fn vrd_pcg64_with_seed(seed: Wide) -> Parts;
-    pub safe fn vrd_pcg32_with_stream(seed: u64, stream: u64) -> Parts;
-    pub safe fn vrd_pcg64_with_stream(seed: Wide, stream: Wide) -> Parts;
+    pub safe fn vrd_xoshiro_with_seed_in(state: &mut State, seed: u64);
+    pub safe fn vrd_mersenne_twister_with_seed_in(state: &mut State, table: &mut Table, seed: u32);
+    pub safe fn vrd_pcg32_with_seed_in(state: &mut State, seed: u64);
+    pub safe fn vrd_pcg64_with_seed_in(state: &mut State, seed: Wide);
+    pub safe fn vrd_pcg32_with_stream_in(state: &mut State, seed: u64, stream: u64);
+    pub safe fn vrd_pcg64_with_stream_in(state: &mut State, seed: Wide, stream: Wide);
 
-    pub safe fn vrd_rand(parts: Parts, table: &mut Table) -> Word<u32>;
-    pub safe fn vrd_u64(parts: Parts, table: &mut Table) -> Word<u64>;
-    pub safe fn vrd_i64(parts: Parts, table: &mut Table) -> Word<i64>;
-    pub safe fn vrd_pseudo(parts: Parts, table: &mut Table) -> Word<u32>;
+    pub safe fn vrd_rand_in(state: &mut State, table: &mut Table) -> Word<u64>;
+    pub safe fn vrd_u64_in(state: &mut State, table: &mut Table) -> Word<u64>;
+    pub safe fn vrd_i64_in(state: &mut State, table: &mut Table) -> Word<i64>;
+    pub safe fn vrd_pseudo_in(state: &mut State, table: &mut Table) -> Word<u64>;
 
-    pub safe fn vrd_rand_in_place(kind: u32, mti: &mut u32, words: &mut [u64; 4], table: &mut Table) -> MovedWord<u32>;
-    pub safe fn vrd_u64_in_place(kind: u32, mti: &mut u32, words: &mut [u64; 4], table: &mut Table) -> MovedWord<u64>;
-    pub safe fn vrd_bounded_in_place(
-        kind: u32,
-        mti: &mut u32,
-        words: &mut [u64; 4],
-        table: &mut Table,
-        bound: u32,
-        budget: u32,
-    ) -> MovedNumber;
+    pub safe fn vrd_float_in(state: &mut State, table: &mut Table) -> Word<f32>;
+    pub safe fn vrd_double_in(state: &mut State, table: &mut Table) -> Word<f64>;
+    pub safe fn vrd_bool_in(state: &mut State, table: &mut Table, chance: f64) -> Small<bool>;
+    pub safe fn vrd_uniform_in(state: &mut State, table: &mut Table, low: f64, high: f64) -> Word<f64>;
 
-    pub safe fn vrd_seed(parts: Parts, table: &mut Table, seed: u32) -> Moved;
-    pub safe fn vrd_twist(parts: Parts, table: &mut Table) -> Moved;
-    pub safe fn vrd_set_mti(parts: Parts, value: u32) -> Moved;
-    pub safe fn vrd_mti(parts: Parts) -> Position;
-    pub safe fn vrd_split(parts: Parts) -> Divided;
-    pub safe fn vrd_same(parts: Parts, table: &Table, others: Parts, other: &Table) -> Equality;
+    pub safe fn vrd_bounded_in(state: &mut State, table: &mut Table, bound: u32, budget: u32) -> Number;
+    pub safe fn vrd_random_range_in(state: &mut State, table: &mut Table, min: u32, max: u32, budget: u32) -> Number;
+    pub safe fn vrd_uint_in(state: &mut State, table: &mut Table, min: u32, max: u32, budget: u32) -> Number;
+    pub safe fn vrd_char_in(state: &mut State, table: &mut Table, budget: u32) -> Number;
+    pub safe fn vrd_int_in(state: &mut State, table: &mut Table, min: i32, max: i32, budget: u32) -> Small<i32>;
+    pub safe fn vrd_range_in(state: &mut State, table: &mut Table, min: i32, max: i32, budget: u32) -> Small<i32>;
 
-    pub safe fn vrd_float(parts: Parts, table: &mut Table) -> Word<f32>;
-    pub safe fn vrd_double(parts: Parts, table: &mut Table) -> Word<f64>;
-    pub safe fn vrd_bool(parts: Parts, table: &mut Table, chance: f64) -> Coin;
-    pub safe fn vrd_uniform(parts: Parts, table: &mut Table, low: f64, high: f64) -> Word<f64>;
+    pub safe fn vrd_seed_in(state: &mut State, table: &mut Table, seed: u32) -> u32;
+    pub safe fn vrd_twist_in(state: &mut State, table: &mut Table) -> u32;
+    pub safe fn vrd_set_mti_in(state: &mut State, value: u32) -> u32;
+    pub safe fn vrd_mti_in(state: &State) -> Word<u64>;
+    pub safe fn vrd_split_in(state: &mut State, child: &mut State) -> u32;
+    pub safe fn vrd_same_in(state: &State, table: &Table, other: &State, other_table: &Table) -> Equality;
 
-    pub safe fn vrd_bounded(parts: Parts, table: &mut Table, bound: u32, budget: u32) -> Number<u32>;
-    pub safe fn vrd_random_range(parts: Parts, table: &mut Table, min: u32, max: u32, budget: u32) -> Number<u32>;
-    pub safe fn vrd_char(parts: Parts, table: &mut Table, budget: u32) -> Number<u32>;
-    pub safe fn vrd_uint(parts: Parts, table: &mut Table, min: u32, max: u32, budget: u32) -> Number<u32>;
-    pub safe fn vrd_int(parts: Parts, table: &mut Table, min: i32, max: i32, budget: u32) -> Number<i32>;
-    pub safe fn vrd_range(parts: Parts, table: &mut Table, min: i32, max: i32, budget: u32) -> Number<i32>;
+    pub safe fn vrd_list_limit() -> u64;
 }
 
 // Lists and buffers cross as an address and a length: the address must be that of so many entries.
 unsafe extern "C" {
-    fn vrd_make(kind: u32, seed: *const u8, length: usize, table: &mut Table) -> Made;
-    fn vrd_fill_bytes(parts: Parts, table: &mut Table, dest: *mut u8, length: usize) -> Moved;
-    fn vrd_choose(parts: Parts, table: &mut Table, list: *const u32, length: usize, budget: u32) -> Chosen;
-    fn vrd_shuffle(parts: Parts, table: &mut Table, list: *mut u32, length: usize, budget: u32) -> Ordered;
-    fn vrd_rand_slice(
-        parts: Parts,
-        table: &mut Table,
-        list: *const u32,
-        length: usize,
-        window: usize,
-        budget: u32,
-    ) -> Started;
+    fn vrd_make_in(state: &mut State, table: &mut Table, kind: u32, seed: *const u8, length: usize) -> u32;
+    fn vrd_fill_bytes_in(state: &mut State, table: &mut Table, dest: *mut u8, length: usize) -> u32;
+    fn vrd_choose_in(state: &mut State, table: &mut Table, list: *const u32, length: usize, budget: u32) -> Choice;
+    fn vrd_rand_slice_in(state: &mut State, table: &mut Table, list: *const u32, length: usize, window: usize, budget: u32) -> Number;
+    fn vrd_shuffle_in(state: &mut State, table: &mut Table, list: *mut u32, length: usize, budget: u32) -> Number;
 }
 
-/// A generator of a kind number and a byte seed.
-pub fn make(kind: u32, seed: &[u8], table: &mut Table) -> Made {
+/// A generator of a kind number and a byte seed, written to the arrays; the refusal's number.
+#[inline]
+pub fn make(state: &mut State, table: &mut Table, kind: u32, seed: &[u8]) -> u32 {
     // SAFETY: address and length are those of one slice.
-    unsafe { vrd_make(kind, seed.as_ptr(), seed.len(), table) }
+    unsafe { vrd_make_in(state, table, kind, seed.as_ptr(), seed.len()) }
 }
 
-/// Fills the buffer.
-pub fn fill_bytes(parts: Parts, table: &mut Table, dest: &mut [u8]) -> Moved {
+/// Fills the buffer; the refusal's number.
+#[inline]
+pub fn fill_bytes(state: &mut State, table: &mut Table, dest: &mut [u8]) -> u32 {
     // SAFETY: address and length are those of one slice, which nothing else uses meanwhile.
-    unsafe { vrd_fill_bytes(parts, table, dest.as_mut_ptr(), dest.len()) }
+    unsafe { vrd_fill_bytes_in(state, table, dest.as_mut_ptr(), dest.len()) }
 }
 
 /// An entry of the list.
-pub fn choose(parts: Parts, table: &mut Table, list: &[u32], budget: u32) -> Chosen {
+#[inline]
+pub fn choose(state: &mut State, table: &mut Table, list: &[u32], budget: u32) -> Choice {
     // SAFETY: address and length are those of one slice.
-    unsafe { vrd_choose(parts, table, list.as_ptr(), list.len(), budget) }
+    unsafe { vrd_choose_in(state, table, list.as_ptr(), list.len(), budget) }
 }
 
 /// The start of a part of the list that is `window` long.
-pub fn rand_slice(parts: Parts, table: &mut Table, list: &[u32], window: usize, budget: u32) -> Started {
+#[inline]
+pub fn rand_slice(state: &mut State, table: &mut Table, list: &[u32], window: usize, budget: u32) -> Number {
     // SAFETY: address and length are those of one slice.
-    unsafe { vrd_rand_slice(parts, table, list.as_ptr(), list.len(), window, budget) }
+    unsafe { vrd_rand_slice_in(state, table, list.as_ptr(), list.len(), window, budget) }
 }
 
 /// The list in another order.
-pub fn shuffle(parts: Parts, table: &mut Table, list: &mut [u32], budget: u32) -> Ordered {
+#[inline]
+pub fn shuffle(state: &mut State, table: &mut Table, list: &mut [u32], budget: u32) -> Number {
     // SAFETY: address and length are those of one slice, which nothing else uses meanwhile.
-    unsafe { vrd_shuffle(parts, table, list.as_mut_ptr(), list.len(), budget) }
+    unsafe { vrd_shuffle_in(state, table, list.as_mut_ptr(), list.len(), budget) }
 }

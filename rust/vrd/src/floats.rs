@@ -1,6 +1,6 @@
 //! Floats: from 0 up to 1, a chance, and a number of an interval. They reject no word, and so take no budget.
 
-use crate::answers::drawn;
+use crate::answers::small;
 use crate::{exports, Drawn, Random, Refusal};
 
 /// # Floats
@@ -29,17 +29,13 @@ impl Random {
     /// A number from 0 up to, but not including, 1, of 24 bits: (word >> 8) / 2^24.
     #[inline]
     pub fn float(&mut self) -> f32 {
-        let drawn = exports::vrd_float(self.small, &mut self.table);
-        self.small = drawn.next;
-        drawn.word
+        exports::vrd_float_in(&mut self.state, &mut self.table).value
     }
 
     /// A number from 0 up to, but not including, 1, of 53 bits: (64-bit word >> 11) / 2^53.
     #[inline]
     pub fn double(&mut self) -> f64 {
-        let drawn = exports::vrd_double(self.small, &mut self.table);
-        self.small = drawn.next;
-        drawn.word
+        exports::vrd_double_in(&mut self.state, &mut self.table).value
     }
 
     /// True with this chance: draws a double and asks whether it is below.
@@ -47,9 +43,7 @@ impl Random {
     /// Refused where the chance is NaN, below 0 or above 1 ([`Refusal::Chance`]).
     #[inline]
     pub fn bool(&mut self, chance: f64) -> Result<Drawn<bool>, Refusal> {
-        let coin = exports::vrd_bool(self.small, &mut self.table, chance);
-        self.small = coin.next;
-        drawn(coin.refusal, coin.value, coin.used)
+        small(exports::vrd_bool_in(&mut self.state, &mut self.table, chance))
     }
 
     /// A number of the interval: low + (high - low) * double, each operation rounded once. It may equal `high`.
@@ -58,8 +52,7 @@ impl Random {
     /// where high - low overflows ([`Refusal::NotFinite`]).
     #[inline]
     pub fn uniform(&mut self, low: f64, high: f64) -> Result<f64, Refusal> {
-        let drawn = exports::vrd_uniform(self.small, &mut self.table, low, high);
-        self.small = drawn.next;
-        Refusal::or(drawn.refusal, drawn.word)
+        let drawn = exports::vrd_uniform_in(&mut self.state, &mut self.table, low, high);
+        Refusal::or(drawn.refusal, drawn.value)
     }
 }

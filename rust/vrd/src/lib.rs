@@ -3,7 +3,8 @@
 //! The crate has the names of the Rust crate `vrd` (repository sebastienrousseau/vrd) and the words that it draws, bit for bit.
 //! Behind the names stands the archive of a library in Rattle, in which every function is proved to meet its contract.
 //! [`Random`] is one of four generators: Xoshiro256++ (kind 0), the Mersenne Twister MT19937 (kind 1), Pcg32 (kind 2) and
-//! Pcg64 (kind 3). It is a plain value, nothing is boxed, and the crate needs no `std`.
+//! Pcg64 (kind 3). It is a plain value, nothing is boxed, and the crate needs no `std`. A call lends it to the library, which changes it
+//! where it stands: nothing is copied.
 //!
 //! Two things are different from the original:
 //!
@@ -33,9 +34,6 @@
 #![deny(unsafe_code)]
 
 mod answers;
-#[doc(hidden)]
-#[allow(unsafe_code, missing_docs)]
-pub mod by_value;
 mod draws;
 #[doc(hidden)]
 #[allow(unsafe_code, missing_docs)]
@@ -49,5 +47,6 @@ mod state;
 mod words;
 
 pub use answers::{Bottle, Drawn};
+pub use lists::list_limit;
 pub use random::{Parts, Random};
 pub use refusal::Refusal;

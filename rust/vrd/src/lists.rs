@@ -5,7 +5,7 @@ use crate::{exports, Bottle, Drawn, Random, Refusal};
 
 /// # Lists within a budget
 ///
-/// A list has at most 65,536 entries ([`Refusal::TooLong`]). Refused, it is as it came.
+/// A list has at most [`list_limit`](crate::list_limit) entries ([`Refusal::TooLong`]). Refused, it is as it came.
 ///
 /// ```
 /// use vrd::{Random, Refusal};
@@ -36,9 +36,9 @@ impl Random {
     /// Refused are an empty list ([`Refusal::Empty`]) and one too long.
     #[inline]
     pub fn choose(&mut self, list: &[u32], budget: u32) -> Result<Drawn<Bottle>, Refusal> {
-        let chosen = exports::choose(self.small, &mut self.table, list, budget);
-        self.small = chosen.next;
-        drawn(chosen.refusal, Bottle { place: chosen.place, number: chosen.value }, chosen.used)
+        let chosen = exports::choose(&mut self.state, &mut self.table, list, budget);
+        let bottle = Bottle { place: chosen.place as usize, number: chosen.value as u32 };
+        drawn(chosen.refusal, bottle, chosen.used)
     }
 
     /// A part of the list that is `window` long. A window as long as the list still takes a word.
@@ -46,9 +46,8 @@ impl Random {
     /// Refused are an empty list ([`Refusal::Empty`]), one too long, and a window of 0 or longer than the list ([`Refusal::Window`]).
     #[inline]
     pub fn rand_slice<'a>(&mut self, list: &'a [u32], window: usize, budget: u32) -> Result<Drawn<&'a [u32]>, Refusal> {
-        let started = exports::rand_slice(self.small, &mut self.table, list, window, budget);
-        self.small = started.next;
-        drawn(started.refusal, part(list, started.start, window), started.used)
+        let started = exports::rand_slice(&mut self.state, &mut self.table, list, window, budget);
+        drawn(started.refusal, part(list, started.value as usize, window), started.used)
     }
 
     /// Puts the list into another order: from the last place down to place 1, each swaps with a place drawn up to itself. One
@@ -57,10 +56,14 @@ impl Random {
     /// Refused is a list too long.
     #[inline]
     pub fn shuffle(&mut self, list: &mut [u32], budget: u32) -> Result<Drawn<()>, Refusal> {
-        let ordered = exports::shuffle(self.small, &mut self.table, list, budget);
-        self.small = ordered.next;
+        let ordered = exports::shuffle(&mut self.state, &mut self.table, list, budget);
         drawn(ordered.refusal, (), ordered.used)
     }
+}
+
+/// The most entries that a list may have.
+pub fn list_limit() -> usize {
+    exports::vrd_list_limit() as usize
 }
 
 /// The part of the list that starts there, or the empty part where it would end beyond the list.

@@ -1,11 +1,7 @@
 //! Makers: from seeds, seeds and streams, bytes, and parts set by hand.
 
-use crate::exports::{self, Table};
+use crate::exports::{self, State, Table};
 use crate::{Parts, Random, Refusal};
-
-/// What a generator starts from: nothing in the parts that its kind does not use.
-const NO_SMALL: exports::Parts = exports::Parts { kind: 0, mti: 0, words: [0; 4] };
-const NO_TABLE: Table = [0; 624];
 
 /// # Makers
 ///
@@ -27,47 +23,47 @@ const NO_TABLE: Table = [0; 624];
 impl Random {
     /// Xoshiro256++ from a seed number. Seed 0 is replaced by a constant, as in the original.
     pub fn from_u64_seed(seed: u64) -> Self {
-        Self { small: exports::vrd_xoshiro_with_seed(seed), table: NO_TABLE }
+        Self::made(|state, _| exports::vrd_xoshiro_with_seed_in(state, seed))
     }
 
     /// Xoshiro256++ from 32 bytes, whose four little-endian words are XORed to a seed number.
     pub fn from_seed(seed: [u8; 32]) -> Self {
-        Self::made(0, &seed).1
+        Self::made(|state, table| {
+            exports::make(state, table, 0, &seed);
+        })
     }
 
     /// The Mersenne Twister from a seed number.
     pub fn new_mersenne_twister_with_seed(seed: u32) -> Self {
-        let mut table = NO_TABLE;
-        let small = exports::vrd_mersenne_twister_with_seed(seed, &mut table);
-        Self { small, table }
+        Self::made(|state, table| exports::vrd_mersenne_twister_with_seed_in(state, table, seed))
     }
 
     /// Pcg32 from a seed number, on the original's default stream.
     pub fn new_pcg32_with_seed(seed: u64) -> Self {
-        Self { small: exports::vrd_pcg32_with_seed(seed), table: NO_TABLE }
+        Self::made(|state, _| exports::vrd_pcg32_with_seed_in(state, seed))
     }
 
     /// Pcg64 from a seed number, on the original's default stream.
     pub fn new_pcg64_with_seed(seed: u128) -> Self {
-        Self { small: exports::vrd_pcg64_with_seed(seed.into()), table: NO_TABLE }
+        Self::made(|state, _| exports::vrd_pcg64_with_seed_in(state, seed.into()))
     }
 
     /// Pcg32 from a seed number and a stream.
     pub fn new_pcg32_with_stream(seed: u64, stream: u64) -> Self {
-        Self { small: exports::vrd_pcg32_with_stream(seed, stream), table: NO_TABLE }
+        Self::made(|state, _| exports::vrd_pcg32_with_stream_in(state, seed, stream))
     }
 
     /// Pcg64 from a seed number and a stream.
     pub fn new_pcg64_with_stream(seed: u128, stream: u128) -> Self {
-        Self { small: exports::vrd_pcg64_with_stream(seed.into(), stream.into()), table: NO_TABLE }
+        Self::made(|state, _| exports::vrd_pcg64_with_stream_in(state, seed.into(), stream.into()))
     }
 
     /// A generator of any kind from bytes: 32, 32, 16 and 32 of them for the kinds 0 to 3.
     ///
     /// Refused are a kind above 3 ([`Refusal::Kind`]) and then another length ([`Refusal::SeedLength`]).
     pub fn make(kind: u32, seed: &[u8]) -> Result<Self, Refusal> {
-        let (refusal, random) = Self::made(kind, seed);
-        Refusal::or(refusal, random)
+        let mut made = Self::BLANK;
+        Refusal::or(exports::make(&mut made.state, &mut made.table, kind, seed), made)
     }
 
     /// A generator with these parts, taken as they are: all zeros, an even increment and a position above 624 too.
@@ -79,24 +75,24 @@ impl Random {
     /// assert_eq!([unit.u64(), unit.u64()], [41943041, 58720359]);
     /// ```
     pub fn from_parts(parts: Parts<'_>) -> Self {
-        let small = |kind, words| exports::Parts { kind, mti: 0, words };
         match parts {
-            Parts::Xoshiro256PlusPlus(words) => Self { small: small(0, words), table: NO_TABLE },
-            Parts::MersenneTwister { table, mti } => {
-                Self { small: exports::Parts { kind: 1, mti, ..NO_SMALL }, table: *table }
-            }
-            Parts::Pcg32 { state, inc } => Self { small: small(2, [state, inc, 0, 0]), table: NO_TABLE },
+            Parts::Xoshiro256PlusPlus([s0, s1, s2, s3]) => Self { state: [0, 0, s0, s1, s2, s3], ..Self::BLANK },
+            Parts::MersenneTwister { table, mti } => Self { state: [1, mti.into(), 0, 0, 0, 0], table: *table },
+            Parts::Pcg32 { state, inc } => Self { state: [2, 0, state, inc, 0, 0], ..Self::BLANK },
             Parts::Pcg64 { state, inc } => {
                 let (state, inc) = (exports::Wide::from(state), exports::Wide::from(inc));
-                Self { small: small(3, [state.high, state.low, inc.high, inc.low]), table: NO_TABLE }
+                Self { state: [3, 0, state.high, state.low, inc.high, inc.low], ..Self::BLANK }
             }
         }
     }
 
-    /// The refusal's number, and the generator made (kind 0 with zeros where it is refused).
-    fn made(kind: u32, seed: &[u8]) -> (u32, Self) {
-        let mut table = NO_TABLE;
-        let made = exports::make(kind, seed, &mut table);
-        (made.refusal, Self { small: made.generator, table })
+    /// Where a generator is made: zeros, of which the maker writes what its kind uses.
+    pub(crate) const BLANK: Self = Self { state: [0; 6], table: [0; 624] };
+
+    /// What a maker that refuses nothing writes there.
+    fn made(maker: impl FnOnce(&mut State, &mut Table)) -> Self {
+        let mut made = Self::BLANK;
+        maker(&mut made.state, &mut made.table);
+        made
     }
 }

@@ -1,6 +1,6 @@
 //! The generator: one of four kinds, equal or not to another, and its parts read out.
 
-use crate::exports::{self, Table};
+use crate::exports::{self, State, Table};
 use core::fmt;
 
 /// A generator of one of four kinds; see [`Parts`] for them.
@@ -9,8 +9,8 @@ use core::fmt;
 /// [`Random::new_pcg64_with_seed`] and the other makers. Two generators are equal if their kinds and that kind's own parts are.
 #[derive(Clone)]
 pub struct Random {
-    /// The kind, which is never above 3, the twister's position, and the kind's small words.
-    pub(crate) small: exports::Parts,
+    /// The kind, which is never above 3, the twister's position, and the kind's small words; each call lends it, and the table.
+    pub(crate) state: State,
     /// The twister's table; zeros on the other kinds.
     pub(crate) table: Table,
 }
@@ -46,7 +46,7 @@ pub enum Parts<'a> {
 impl Random {
     /// The number of the kind: 0 Xoshiro256++, 1 Mersenne Twister, 2 Pcg32, 3 Pcg64.
     pub fn kind(&self) -> u32 {
-        self.small.kind
+        self.state[0] as u32
     }
 
     /// The kind and its parts. [`Random::from_parts`] makes the same generator of them.
@@ -61,22 +61,19 @@ impl Random {
     /// assert!(Random::from_parts(unit.parts()) == unit);
     /// ```
     pub fn parts(&self) -> Parts<'_> {
-        let exports::Parts { kind, mti, words: [w0, w1, w2, w3] } = self.small;
+        let [kind, mti, w0, w1, w2, w3] = self.state;
         match kind {
             0 => Parts::Xoshiro256PlusPlus([w0, w1, w2, w3]),
-            1 => Parts::MersenneTwister { table: &self.table, mti },
+            1 => Parts::MersenneTwister { table: &self.table, mti: mti as u32 },
             2 => Parts::Pcg32 { state: w0, inc: w1 },
-            _ => Parts::Pcg64 {
-                state: exports::Wide { high: w0, low: w1 }.into(),
-                inc: exports::Wide { high: w2, low: w3 }.into(),
-            },
+            _ => Parts::Pcg64 { state: exports::Wide { high: w0, low: w1 }.into(), inc: exports::Wide { high: w2, low: w3 }.into() },
         }
     }
 }
 
 impl PartialEq for Random {
     fn eq(&self, other: &Self) -> bool {
-        exports::vrd_same(self.small, &self.table, other.small, &other.table).equal
+        exports::vrd_same_in(&self.state, &self.table, &other.state, &other.table).equal
     }
 }
 

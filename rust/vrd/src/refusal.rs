@@ -23,7 +23,7 @@ pub enum Refusal {
     Chance = 3,
     /// An empty list.
     Empty = 4,
-    /// A list above 65,536 entries.
+    /// A list above [`list_limit`](crate::list_limit).
     TooLong = 5,
     /// A window of 0, or longer than the list.
     Window = 6,
@@ -45,7 +45,7 @@ const SAID: [(Refusal, &str); 11] = [
     (Refusal::Order, "the ends are out of order"),
     (Refusal::Chance, "the chance is not a number from 0 to 1"),
     (Refusal::Empty, "the list is empty"),
-    (Refusal::TooLong, "the list is longer than 65,536 entries"),
+    (Refusal::TooLong, "the list is longer than the limit"),
     (Refusal::Window, "the window is 0 or longer than the list"),
     (Refusal::NotFinite, "an end, or the distance of the ends, is not finite"),
     (Refusal::Budget, "the draws don't finish within the budget"),

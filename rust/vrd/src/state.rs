@@ -32,8 +32,7 @@ impl Random {
     /// Seeds the generator anew. The kind is kept, the seed widened to what the kind takes; the PCGs go to their default stream.
     #[inline]
     pub fn seed(&mut self, seed: u32) {
-        let moved = exports::vrd_seed(self.small, &mut self.table, seed);
-        self.small = moved.next;
+        exports::vrd_seed_in(&mut self.state, &mut self.table, seed);
     }
 
     /// A second generator, of Xoshiro256++ alone: the child has the old state, and this one jumps (2^128 steps, say its
@@ -42,28 +41,25 @@ impl Random {
     /// Refused on the other kinds ([`Refusal::NoSplit`]).
     #[inline]
     pub fn split(&mut self) -> Result<Self, Refusal> {
-        let divided = exports::vrd_split(self.small);
-        self.small = divided.parent;
-        Refusal::or(divided.refusal, Self { small: divided.child, table: [0; 624] })
+        let mut child = Self::BLANK;
+        Refusal::or(exports::vrd_split_in(&mut self.state, &mut child.state), child)
     }
 
     /// The twister's position; 0 on the other kinds.
     #[inline]
     pub fn mti(&self) -> u32 {
-        exports::vrd_mti(self.small).mti
+        exports::vrd_mti_in(&self.state).value as u32
     }
 
     /// Sets the twister's position, at most to 624; nothing on the other kinds.
     #[inline]
     pub fn set_mti(&mut self, value: u32) {
-        let moved = exports::vrd_set_mti(self.small, value);
-        self.small = moved.next;
+        exports::vrd_set_mti_in(&mut self.state, value);
     }
 
     /// Renews the twister's table and sets its position to 0; nothing on the other kinds.
     #[inline]
     pub fn twist(&mut self) {
-        let moved = exports::vrd_twist(self.small, &mut self.table);
-        self.small = moved.next;
+        exports::vrd_twist_in(&mut self.state, &mut self.table);
     }
 }

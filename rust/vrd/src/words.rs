@@ -33,39 +33,32 @@ impl Random {
     /// The next word of 32 bits; on Xoshiro256++ and Pcg64 the high half of a word of 64.
     #[inline]
     pub fn rand(&mut self) -> u32 {
-        let exports::Parts { kind, mti, words } = &mut self.small;
-        exports::vrd_rand_in_place(*kind, mti, words, &mut self.table).word
+        exports::vrd_rand_in(&mut self.state, &mut self.table).value as u32
     }
 
     /// The next word of 64 bits: one word of Xoshiro256++ and Pcg64, two of the twister (the high half first) and of Pcg32 (the
     /// low half first).
     #[inline]
     pub fn u64(&mut self) -> u64 {
-        let exports::Parts { kind, mti, words } = &mut self.small;
-        exports::vrd_u64_in_place(*kind, mti, words, &mut self.table).word
+        exports::vrd_u64_in(&mut self.state, &mut self.table).value
     }
 
     /// [`Random::u64`], read as a signed number.
     #[inline]
     pub fn i64(&mut self) -> i64 {
-        let drawn = exports::vrd_i64(self.small, &mut self.table);
-        self.small = drawn.next;
-        drawn.word
+        exports::vrd_i64_in(&mut self.state, &mut self.table).value
     }
 
     /// 32 words XORed.
     #[inline]
     pub fn pseudo(&mut self) -> u32 {
-        let drawn = exports::vrd_pseudo(self.small, &mut self.table);
-        self.small = drawn.next;
-        drawn.word
+        exports::vrd_pseudo_in(&mut self.state, &mut self.table).value as u32
     }
 
     /// Fills the buffer: by words of 8 bytes on Xoshiro256++ and Pcg64 and of 4 on the others, the lowest byte first. A short tail
     /// takes a whole word.
     #[inline]
     pub fn fill_bytes(&mut self, dest: &mut [u8]) {
-        let moved = exports::fill_bytes(self.small, &mut self.table, dest);
-        self.small = moved.next;
+        exports::fill_bytes(&mut self.state, &mut self.table, dest);
     }
 }

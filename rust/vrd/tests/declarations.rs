@@ -1,4 +1,5 @@
-//! The header for C and this crate's declarations name every export of the Rattle crate vrd_ffi, and nothing else.
+//! The header for C and this crate's declarations name every export of the Rattle crate vrd_ffi, and nothing else; and for every export
+//! over the two arrays of a generator the header has a call over the generator, named without `_in`.
 
 use std::collections::BTreeSet;
 use std::fs;
@@ -13,11 +14,7 @@ fn names(text: &str, before: &str) -> BTreeSet<String> {
 /// The words of the text that begin with `vrd_` and end at a parenthesis.
 fn called(text: &str) -> BTreeSet<String> {
     let words = text.split_inclusive(|c: char| !(c.is_alphanumeric() || c == '_'));
-    words
-        .filter_map(|word| word.strip_suffix('('))
-        .filter(|word| word.starts_with("vrd_"))
-        .map(str::to_string)
-        .collect()
+    words.filter_map(|word| word.strip_suffix('(')).filter(|word| word.starts_with("vrd_")).map(str::to_string).collect()
 }
 
 fn exports(root: &Path) -> BTreeSet<String> {
@@ -29,16 +26,11 @@ fn exports(root: &Path) -> BTreeSet<String> {
 #[test]
 fn every_export_is_declared() {
     let root = Path::new(env!("CARGO_MANIFEST_DIR")).join("../..");
-    let (by_value, lent): (BTreeSet<_>, BTreeSet<_>) =
-        exports(&root).into_iter().partition(|name| name.ends_with("_by_value"));
-    assert!(lent.contains("vrd_rand") && by_value.contains("vrd_rand_by_value"), "the exports were found");
-    for (declarations, names) in [
-        ("include/vrd.h", &lent),
-        ("rust/vrd/src/exports.rs", &lent),
-        ("include/vrd_by_value.h", &by_value),
-        ("rust/vrd/src/by_value.rs", &by_value),
-    ] {
-        let text = fs::read_to_string(root.join(declarations)).expect(declarations);
-        assert_eq!(&called(&text), names, "{declarations}");
-    }
+    let exports = exports(&root);
+    assert!(exports.contains("vrd_rand_in"), "the exports were found");
+    let read = |file: &str| fs::read_to_string(root.join(file)).expect(file);
+    assert_eq!(called(&read("rust/vrd/src/exports.rs")), exports, "rust/vrd/src/exports.rs");
+    let over_generators = exports.iter().filter_map(|name| name.strip_suffix("_in")).map(str::to_string);
+    let in_header = exports.iter().cloned().chain(over_generators).collect();
+    assert_eq!(called(&read("include/vrd.h")), in_header, "include/vrd.h");
 }

@@ -1,150 +1,143 @@
-//! The exports themselves, which take any kind number and any unused parts: kinds that there are not are refused with 10 before
-//! anything else is looked at, and what a kind does not use comes back as it came. Neither can be asked through the package vrd.
+//! The exports themselves, over two arrays between guard words: kinds that there are not are refused with 10 before anything else is looked
+//! at, a refused call changes nothing, and what a kind does not use stays. None of it can be asked through the package vrd.
 
-use super::KINDS;
+use super::exported::{Answer, Export, EXPORTS};
+use super::lent::{Lent, TABLE};
+use super::{starts, KINDS};
 use crate::tally::{Row, Tally};
-use port::{Parts, Table};
+use port::Wide;
+use vrd_original::pcg::{Pcg32, Pcg64};
+use vrd_original::rand_core::SeedableRng;
+use vrd_original::{MersenneTwister, Random as Original, RngBackend};
 
-/// The list, the buffer and the table before a call.
-const LIST: [u32; 5] = [10, 20, 30, 40, 50];
-const BYTES: [u8; 100] = [0xA5; 100];
-const TABLE: Table = [0xDEAD_BEEF; 624];
+/// What stands in the entries of the state that a kind does not use.
+const UNUSED: u64 = 77;
 
-/// The parts before a call.
-const PARTS: Parts = Parts { kind: 0, mti: 77, words: [11, 22, 33, 44] };
+/// Calls of each export from each start.
+const CALLS: u32 = 20;
 
-/// What an export answers: the refusal, the rest as one number (0 where all of it is 0, false or untouched), the generator after.
-type Answer = (u32, u64, Parts);
-
-/// An export with arguments made of a number: of 100 they are good ones, of 0 those that the call refuses.
-type Export = (&'static str, fn(Parts, &mut Table, u32) -> Answer);
-
-const EXPORTS: [Export; 24] = [
-    ("vrd_rand", |p, t, _| word(port::vrd_rand(p, t), |word| word.into())),
-    ("vrd_u64", |p, t, _| word(port::vrd_u64(p, t), |word| word)),
-    ("vrd_i64", |p, t, _| word(port::vrd_i64(p, t), |word| word as u64)),
-    ("vrd_pseudo", |p, t, _| word(port::vrd_pseudo(p, t), |word| word.into())),
-    ("vrd_float", |p, t, _| word(port::vrd_float(p, t), |value| value.to_bits().into())),
-    ("vrd_double", |p, t, _| word(port::vrd_double(p, t), f64::to_bits)),
-    ("vrd_uniform", |p, t, n| word(port::vrd_uniform(p, t, 0.0, n.into()), f64::to_bits)),
-    ("vrd_bool", |p, t, n| {
-        let a = port::vrd_bool(p, t, if n == 0 { f64::NAN } else { 0.5 });
-        (a.refusal, u64::from(a.used) + u64::from(a.value), a.next)
-    }),
-    ("vrd_bounded", |p, t, n| number(port::vrd_bounded(p, t, n, n), |value| value.into())),
-    ("vrd_random_range", |p, t, n| number(port::vrd_random_range(p, t, 5, 5 + n, n), |value| value.into())),
-    ("vrd_uint", |p, t, n| number(port::vrd_uint(p, t, 6, 5 + n, n), |value| value.into())),
-    ("vrd_int", |p, t, n| number(port::vrd_int(p, t, 6, 5 + n as i32, n), |value| value as u64)),
-    ("vrd_range", |p, t, n| number(port::vrd_range(p, t, 6, 5 + n as i32, n), |value| value as u64)),
-    ("vrd_char", |p, t, n| number(port::vrd_char(p, t, n), |value| value.into())),
-    ("vrd_rand_in_place", |mut p, t, _| {
-        let a = port::vrd_rand_in_place(p.kind, &mut p.mti, &mut p.words, t);
-        (a.refusal, a.word.into(), p)
-    }),
-    ("vrd_u64_in_place", |mut p, t, _| {
-        let a = port::vrd_u64_in_place(p.kind, &mut p.mti, &mut p.words, t);
-        (a.refusal, a.word, p)
-    }),
-    ("vrd_bounded_in_place", |mut p, t, n| {
-        let a = port::vrd_bounded_in_place(p.kind, &mut p.mti, &mut p.words, t, n, n);
-        (a.refusal, u64::from(a.value) + u64::from(a.used), p)
-    }),
-    ("vrd_choose", |p, t, n| {
-        let a = port::choose(p, t, &LIST[..LIST.len().min(n as usize)], n);
-        (a.refusal, u64::from(a.value) + u64::from(a.used) + a.place as u64, a.next)
-    }),
-    ("vrd_rand_slice", |p, t, n| {
-        let a = port::rand_slice(p, t, &LIST, 3.min(n as usize), n);
-        (a.refusal, u64::from(a.used) + a.start as u64, a.next)
-    }),
-    ("vrd_shuffle", |p, t, n| {
-        let mut list = LIST;
-        let a = port::shuffle(p, t, &mut list, n);
-        (a.refusal, u64::from(a.used) + u64::from(list != LIST), a.next)
-    }),
-    ("vrd_fill_bytes", |p, t, _| {
-        let mut bytes = BYTES;
-        let a = port::fill_bytes(p, t, &mut bytes);
-        (a.refusal, u64::from(bytes != BYTES), a.next)
-    }),
-    ("vrd_seed", |p, t, n| moved(port::vrd_seed(p, t, n))),
-    ("vrd_twist", |p, t, _| moved(port::vrd_twist(p, t))),
-    ("vrd_set_mti", |p, _, n| moved(port::vrd_set_mti(p, n))),
-];
-
-fn word<W>(a: port::Word<W>, bits: fn(W) -> u64) -> Answer {
-    (a.refusal, bits(a.word), a.next)
-}
-
-fn number<N>(a: port::Number<N>, bits: fn(N) -> u64) -> Answer {
-    (a.refusal, bits(a.value) + u64::from(a.used), a.next)
-}
-
-fn moved(a: port::Moved) -> Answer {
-    (a.refusal, 0, a.next)
-}
+/// Kinds that there are not, those whose low half is a kind among them.
+const NO_KINDS: [u64; 11] = [4, 5, 6, 255, 256, 1 << 31, u32::MAX as u64, 1 << 32, (1 << 32) + 1, 1 << 63, u64::MAX];
 
 pub fn compare(tally: &mut Tally) {
     tally.row("above 3", "the exports, refused with 10", no_kind);
-    for (kind, name) in (0..).zip(KINDS) {
-        tally.row(name, "the exports, unused parts as they came", |row| unused(row, kind));
+    for (kind, name) in KINDS.into_iter().enumerate() {
+        tally.row(name, "the exports, both arrays afterwards", |row| answered(row, kind));
+        tally.row(name, "the exports, refused: both arrays as they came", |row| refused(row, kind));
+        tally.row(name, "same, unused parts different", |row| unused_parts(row, kind));
     }
+    tally.row("all", "the makers, both arrays afterwards", makers);
+    tally.row("all", "make, refused: both arrays as they came", refused_makers);
+}
+
+/// One call of an export: its answer and the arrays afterwards must be these.
+fn call(row: &mut Row, export: &Export, lent: &mut Lent, n: u32, expected: (Answer, &Lent)) {
+    let answer = (export.port)(&mut lent.state, &mut lent.table, n);
+    row.case((expected.0, expected.1.arrays()), (answer, lent.arrays()), || format!("{} with {n}", export.name));
 }
 
 /// Everything is as it came, whatever the other arguments are.
 fn no_kind(row: &mut Row) {
-    for kind in [4, 5, 6, 255, 256, 1 << 31, u32::MAX] {
-        let start = Parts { kind, ..PARTS };
-        for (name, call) in EXPORTS {
+    for kind in NO_KINDS {
+        let before = Lent::new([kind, 77, 11, 22, 33, 44], TABLE);
+        for export in &EXPORTS {
             for n in [0, 100] {
-                let mut table = TABLE;
-                let answer = call(start, &mut table, n);
-                row.case(((10, 0, start), TABLE), (answer, table), || format!("{name} of kind {kind} with {n}"));
+                call(row, export, &mut before.clone(), n, (Answer::refused(10), &before));
             }
         }
-        let position = port::vrd_mti(start);
-        row.case((10, 0), (position.refusal, position.mti), || format!("vrd_mti of kind {kind}"));
-        let divided = port::vrd_split(start);
-        let zeros = Parts { kind: 0, mti: 0, words: [0; 4] };
-        let found = (divided.refusal, divided.parent, divided.child);
-        row.case((10, start, zeros), found, || format!("vrd_split of kind {kind}"));
         for known in 0..4 {
-            let other = Parts { kind: known, ..PARTS };
-            for (one, two) in [(start, other), (other, start), (start, start)] {
-                let same = port::vrd_same(one, &TABLE, two, &TABLE);
-                row.case((10, false), (same.refusal, same.equal), || format!("vrd_same of kind {kind} and {known}"));
+            let other = Lent::new([known, 77, 11, 22, 33, 44], TABLE);
+            for (one, two) in [(&before, &other), (&other, &before), (&before, &before)] {
+                let same = port::vrd_same_in(&one.state, &one.table, &two.state, &two.table);
+                row.case((10, false), (same.refusal, same.equal), || format!("vrd_same_in of kind {kind} and {known}"));
             }
         }
     }
 }
 
-/// The parts that the kind does not use, of a generator and its table.
-fn unused_parts(p: Parts, table: &Table) -> (Option<(u32, &Table)>, [Option<u64>; 4]) {
-    let words = match p.kind {
-        1 => p.words.map(Some),
-        2 => [None, None, Some(p.words[2]), Some(p.words[3])],
-        _ => [None; 4],
-    };
-    ((p.kind != 1).then_some((p.mti, table)), words)
+/// Good arguments, several times in a row: the answer and the generator after it are the original's, and nothing that is unused has moved.
+fn answered(row: &mut Row, kind: usize) {
+    for start in starts::all(kind).into_iter().filter(|start| !starts::stands_still(start)) {
+        for export in &EXPORTS {
+            let (mut original, mut lent) = (start.clone(), Lent::of(&start, UNUSED));
+            for _ in 0..CALLS {
+                let (refusal, value) = (export.original)(&mut original);
+                let answer = (export.port)(&mut lent.state, &mut lent.table, 100);
+                let end = Lent::of(&original, UNUSED);
+                let found = (answer.refusal, answer.value, lent.arrays());
+                row.case((refusal, value, end.arrays()), found, || export.name.into());
+            }
+        }
+    }
 }
 
-/// Good arguments are answered, and nothing that is unused has moved; two generators that differ there alone are equal.
-fn unused(row: &mut Row, kind: u32) {
-    let start = Parts { kind, ..PARTS };
-    for (name, call) in EXPORTS {
-        let mut table = TABLE;
-        let (refusal, _, next) = call(start, &mut table, 100);
-        let found = (refusal, next.kind, unused_parts(next, &table));
-        row.case((0, kind, unused_parts(start, &TABLE)), found, || format!("{name} of kind {kind}"));
+/// Bad arguments: a position above 32 bits is left too, of which only the low half counts.
+fn refused(row: &mut Row, kind: usize) {
+    for start in starts::all(kind) {
+        let mut before = Lent::of(&start, UNUSED);
+        before.state[1] |= 5 << 32;
+        for export in EXPORTS.iter().filter(|export| export.refused != 0) {
+            call(row, export, &mut before.clone(), 0, (Answer::refused(export.refused), &before));
+        }
     }
-    let divided = port::vrd_split(start);
-    row.case(unused_parts(start, &TABLE), unused_parts(divided.parent, &TABLE), || "vrd_split".into());
-    let other = match kind {
-        1 => Parts { words: [1, 2, 3, 4], ..start },
-        2 => Parts { mti: 1, words: [start.words[0], start.words[1], 2, 3], ..start },
-        _ => Parts { mti: 1, ..start },
+}
+
+/// Two generators that differ in parts that their kind does not use are equal.
+fn unused_parts(row: &mut Row, kind: usize) {
+    for start in starts::all(kind) {
+        let (one, mut other) = (Lent::of(&start, 1), Lent::of(&start, 2));
+        if kind != 1 {
+            *other.table = [2; 624];
+        }
+        let same = port::vrd_same_in(&one.state, &one.table, &other.state, &other.table);
+        row.case((0, true), (same.refusal, same.equal), || format!("{start:?}"));
+    }
+}
+
+/// Every maker over arrays that held something else: unused entries of the state are 0, and only kind 1 writes the table.
+fn makers(row: &mut Row) {
+    let mut made = |name: &str, original: Original, maker: &dyn Fn(&mut Lent)| {
+        let mut lent = Lent::new([u64::MAX; 6], TABLE);
+        maker(&mut lent);
+        row.case(Lent::of(&original, 0).arrays(), lent.arrays(), || name.into());
     };
-    let others_table = if kind == 1 { TABLE } else { [1; 624] };
-    let same = port::vrd_same(start, &TABLE, other, &others_table);
-    row.case((0, true), (same.refusal, same.equal), || "vrd_same, unused parts different".into());
+    let (wide, stream) = (Wide { high: 1, low: 2 }, Wide { high: 3, low: 4 });
+    let twister = Original::new_mersenne_twister_with_seed;
+    made("xoshiro_with_seed", Original::from_u64_seed(5), &|g| port::vrd_xoshiro_with_seed_in(&mut g.state, 5));
+    made("mersenne_twister_with_seed", twister(5), &|g| {
+        port::vrd_mersenne_twister_with_seed_in(&mut g.state, &mut g.table, 5);
+    });
+    made("pcg32_with_seed", Original::new_pcg32_with_seed(5), &|g| port::vrd_pcg32_with_seed_in(&mut g.state, 5));
+    made("pcg64_with_seed", Original::new_pcg64_with_seed(wide.into()), &|g| port::vrd_pcg64_with_seed_in(&mut g.state, wide));
+    let original = starts::pcg32(Pcg32::from_seed_stream(5, 6));
+    made("pcg32_with_stream", original, &|g| port::vrd_pcg32_with_stream_in(&mut g.state, 5, 6));
+    let original = starts::pcg64(Pcg64::from_seed_stream(wide.into(), stream.into()));
+    made("pcg64_with_stream", original, &|g| port::vrd_pcg64_with_stream_in(&mut g.state, wide, stream));
+    let of_bytes = [
+        Original::from_seed([7; 32]),
+        Original::from_backend(RngBackend::MersenneTwister(Box::new(MersenneTwister::from_seed([7; 32])))),
+        starts::pcg32(Pcg32::from_seed([7; 16])),
+        starts::pcg64(Pcg64::from_seed([7; 32])),
+    ];
+    for (kind, original) in (0..).zip(of_bytes) {
+        let length = if kind == 2 { 16 } else { 32 };
+        made("make", original, &|g| assert_eq!(port::make(&mut g.state, &mut g.table, kind, &[7; 32][..length]), 0));
+    }
+}
+
+/// 10 for the kind, then 11 for the length; whatever the arrays held, they hold.
+fn refused_makers(row: &mut Row) {
+    for kind in (0..6).chain([u32::MAX]) {
+        for length in 0..=64 {
+            let expected = match (kind, length) {
+                (4.., _) => 10,
+                (2, 16) | (0 | 1 | 3, 32) => continue,
+                _ => 11,
+            };
+            let before = Lent::new([u64::MAX; 6], TABLE);
+            let mut lent = before.clone();
+            let refusal = port::make(&mut lent.state, &mut lent.table, kind, &vec![7; length]);
+            row.case((expected, before.arrays()), (refusal, lent.arrays()), || format!("make of kind {kind}, {length} bytes"));
+        }
+    }
 }

@@ -1,9 +1,9 @@
 //! `bool`: chances at both ends and between, those next to the double that is drawn, and those that are refused with 3.
 
 use super::{parts, port_of, starts, KINDS};
-use crate::seeds::Simple;
 use crate::tally::{Row, Tally};
 use crate::STEP_WORDS;
+use simple::Simple;
 use vrd::{Drawn, Refusal};
 
 /// Chances at an edge, and some that are none.
@@ -48,14 +48,11 @@ fn chances(row: &mut Row, kind: usize) {
                 1 => next,
                 2 => next.next_up(),
                 3 => next.next_down(),
-                _ => (simple.next() >> 11) as f64 / (1u64 << 53) as f64,
+                _ => (simple.long() >> 11) as f64 / (1u64 << 53) as f64,
             };
             // The table of refusals: NaN, below 0 or above 1. There the original panics.
-            let expected = if (0.0..=1.0).contains(&chance) {
-                Ok(Drawn { value: original.bool(chance), used })
-            } else {
-                Err(Refusal::Chance)
-            };
+            let expected =
+                if (0.0..=1.0).contains(&chance) { Ok(Drawn { value: original.bool(chance), used }) } else { Err(Refusal::Chance) };
             let found = port.bool(chance);
             row.case((expected, parts(&original)), (found, port.parts()), || format!("bool({chance:?})"));
         }

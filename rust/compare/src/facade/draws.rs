@@ -1,10 +1,10 @@
 //! Draws within a budget, whatever the call. The original tells by its own run how many words a draw takes: the port must answer at
 //! that budget and at larger ones, and refuse with 8 at smaller ones, leaving generator and list as they came.
 
-use super::{parts, port_of, rejecting, starts, KINDS};
+use super::{parts, port_of, rejecting, starts, Port, KINDS};
 use crate::tally::{Row, Tally};
 use std::fmt::Debug;
-use vrd::{Drawn, Random as Port, Refusal};
+use vrd::{Drawn, Refusal};
 use vrd_original::Random as Original;
 
 /// Draws of each call and kind in long runs, of a shuffle its draws of places.
@@ -67,8 +67,7 @@ impl<A: Debug, V: PartialEq + Debug> Call<'_, A, V> {
     pub fn compare(&self, tally: &mut Tally) {
         for (kind, name) in KINDS.into_iter().enumerate() {
             tally.row(name, self.name, |row| {
-                let (still, mut lively): (Vec<_>, Vec<_>) =
-                    starts::all(kind).into_iter().partition(starts::stands_still);
+                let (still, mut lively): (Vec<_>, Vec<_>) = starts::all(kind).into_iter().partition(starts::stands_still);
                 self.without_end(row, &still);
                 self.long_runs(row, &lively);
                 lively.extend(rejecting::starts(kind));
@@ -160,7 +159,7 @@ impl<A: Debug, V: PartialEq + Debug> Call<'_, A, V> {
 }
 
 /// The words that took the generator from one state to the other.
-fn words_between(start: &Original, end: &Original) -> u32 {
+pub fn words_between(start: &Original, end: &Original) -> u32 {
     let mut at = start.clone();
     for used in 0..MOST_WORDS {
         if at == *end {

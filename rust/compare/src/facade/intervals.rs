@@ -2,9 +2,9 @@
 //! refused. The numbers drawn are compared by their bits.
 
 use super::{parts, port_of, starts, KINDS};
-use crate::seeds::Simple;
 use crate::tally::{Row, Tally};
 use crate::STEP_WORDS;
+use simple::Simple;
 use vrd::Refusal;
 
 pub fn compare(tally: &mut Tally) {
@@ -51,18 +51,18 @@ fn edges() -> Vec<(f64, f64)> {
 
 /// An interval at an edge; of any bits; of neighbours; of subnormal ends; of ends of about one size. All but the first in order.
 fn interval(k: u64, edges: &[(f64, f64)], simple: &mut Simple) -> (f64, f64) {
-    let any = |simple: &mut Simple| f64::from_bits(simple.next());
+    let any = |simple: &mut Simple| f64::from_bits(simple.long());
     let (one, other) = match k % 5 {
         0 => return edges[(k / 5) as usize % edges.len()],
         1 => (any(simple), any(simple)),
         2 => {
             let low = any(simple);
-            (low, f64::from_bits(low.to_bits().wrapping_add(1 + simple.next() % 8)))
+            (low, f64::from_bits(low.to_bits().wrapping_add(1 + simple.long() % 8)))
         }
-        3 => (f64::from_bits(simple.next() >> 12), -f64::from_bits(simple.next() >> 12)),
+        3 => (f64::from_bits(simple.long() >> 12), -f64::from_bits(simple.long() >> 12)),
         _ => {
             let low = any(simple);
-            (low, low * (simple.next() as f64 / (1u64 << 62) as f64 - 2.0))
+            (low, low * (simple.long() as f64 / (1u64 << 62) as f64 - 2.0))
         }
     };
     if one < other {

@@ -69,8 +69,7 @@ fn make(kind: u32, seed: &[u8]) -> Port {
 
 fn byte_seeds(tally: &mut Tally) {
     let (long, short) = (seeds::bytes::<32>, seeds::bytes::<16>);
-    let twister =
-        |seed| Original::from_backend(RngBackend::MersenneTwister(Box::new(MersenneTwister::from_seed(seed))));
+    let twister = |seed| Original::from_backend(RngBackend::MersenneTwister(Box::new(MersenneTwister::from_seed(seed))));
     maker(tally, 0, "from_seed", long(), Original::from_seed, Port::from_seed);
     let xoshiro = |seed| starts::xoshiro(Xoshiro256PlusPlus::from_seed(seed));
     maker(tally, 0, "make", long(), xoshiro, |seed| make(0, &seed));

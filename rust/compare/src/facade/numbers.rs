@@ -1,8 +1,8 @@
 //! Numbers drawn within a budget: `bounded`, `random_range`, `int`, `range`, `uint` and `char`, at every edge of their arguments.
 
 use super::draws::{value, Call, Case, OriginalCall, PortCall};
-use crate::seeds::Simple;
 use crate::tally::Tally;
+use simple::Simple;
 
 pub fn compare(tally: &mut Tally) {
     let call: Call<u32, Option<u32>> = Call {
@@ -42,12 +42,7 @@ pub fn compare(tally: &mut Tally) {
 }
 
 /// `int` under either of its names.
-fn signed(
-    tally: &mut Tally,
-    name: &'static str,
-    original: OriginalCall<(i32, i32), Option<i32>>,
-    port: PortCall<(i32, i32), Option<i32>>,
-) {
+fn signed(tally: &mut Tally, name: &'static str, original: OriginalCall<(i32, i32), Option<i32>>, port: PortCall<(i32, i32), Option<i32>>) {
     let cases = word_pairs().chain(equal_and_all()).map(|(min, max)| {
         // The same distances, moved so that they begin at the least number; and about 0.
         let moved = |n: u32| n.wrapping_add(1 << 31) as i32;
@@ -70,7 +65,7 @@ fn bounds() -> impl Iterator<Item = u32> {
     let edges = [1, 2, 3, u32::MAX - 1, u32::MAX, 6, 10, 26, 40, 0xAAAA_AAAB, 3_000_000_000];
     let powers = (2..32).flat_map(|k| [(1 << k) - 1, 1 << k, (1 << k) + 1]);
     let mut simple = Simple::new(99);
-    let others = (0..40).map(move |_| (simple.next() as u32).max(1));
+    let others = (0..40).map(move |_| (simple.long() as u32).max(1));
     edges.into_iter().chain(powers).chain(others)
 }
 

@@ -1,12 +1,14 @@
 //! The refusals that are given before any word is looked at, each at budget 0 too, so that 8 comes last. Where the original panics
 //! there is nothing to compare with but that it does: the numbers and their order are those of the table of refusals.
 
-use super::{port_of, starts, KINDS};
+use super::lists::{LONGEST, MARK};
+use super::{port_of, starts, Port, KINDS};
+use crate::fence::FencedList;
 use crate::tally::{Row, Tally};
-use vrd::{Random as Port, Refusal};
+use vrd::Refusal;
 
 /// One entry more than the longest list.
-const TOO_LONG: usize = 65_537;
+const TOO_LONG: usize = LONGEST + 1;
 
 pub fn compare(tally: &mut Tally) {
     for (kind, name) in KINDS.into_iter().enumerate() {
@@ -44,9 +46,9 @@ fn refusals(row: &mut Row, start: &Port, budget: u32) {
     check(Refusal::Empty, &|| "choose from none".into(), &|g| g.choose(&[], budget).err());
     check(Refusal::TooLong, &|| "choose from too many".into(), &|g| g.choose(&long, budget).err());
     check(Refusal::TooLong, &|| "shuffle of too many".into(), &|g| {
-        let mut list: Vec<u32> = (0..TOO_LONG as u32).collect();
-        let refusal = g.shuffle(&mut list, budget).err();
-        refusal.filter(|_| (0..).zip(&list).all(|(place, &entry)| place == entry))
+        let mut list = FencedList::new(0..TOO_LONG as u32, MARK);
+        let refusal = g.shuffle(list.list(), budget).err();
+        refusal.filter(|_| (0..).zip(list.checked()).all(|(place, &entry)| place == entry))
     });
     for (expected, length, window) in WINDOWS {
         let what = || format!("rand_slice of {length}, window {window}");

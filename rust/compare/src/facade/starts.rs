@@ -1,6 +1,6 @@
 //! Where the comparisons of the facade begin: seeds, streams, byte seeds and states set by hand, of each kind.
 
-use crate::seeds::Simple;
+use simple::Simple;
 use vrd_original::pcg::{Pcg32, Pcg64};
 use vrd_original::rand_core::SeedableRng;
 use vrd_original::xoshiro::Xoshiro256PlusPlus;
@@ -44,11 +44,10 @@ fn made(kind: usize) -> Vec<Random> {
     let mut simple = Simple::new(7 + kind as u64);
     match kind {
         0 => {
-            let mut all: Vec<_> =
-                [0, 1, 42, u64::MAX].map(|seed| xoshiro(Xoshiro256PlusPlus::from_u64_seed(seed))).into();
+            let mut all: Vec<_> = [0, 1, 42, u64::MAX].map(|seed| xoshiro(Xoshiro256PlusPlus::from_u64_seed(seed))).into();
             all.push(xoshiro(Xoshiro256PlusPlus::from_seed([9; 32])));
             all.push(xoshiro(Xoshiro256PlusPlus::from_parts([1, 2, 3, 4])));
-            all.push(xoshiro(Xoshiro256PlusPlus::from_parts([simple.next(), simple.next(), 0, 0])));
+            all.push(xoshiro(Xoshiro256PlusPlus::from_parts([simple.long(), simple.long(), 0, 0])));
             all
         }
         1 => {
@@ -61,14 +60,14 @@ fn made(kind: usize) -> Vec<Random> {
             pcg32(Pcg32::from_seed_stream(42, 54)),
             pcg32(Pcg32::from_seed_stream(u64::MAX, u64::MAX)),
             pcg32(Pcg32::from_seed([7; 16])),
-            pcg32(Pcg32::from_parts(simple.next(), 108)),
+            pcg32(Pcg32::from_parts(simple.long(), 108)),
         ],
         _ => vec![
             pcg64(Pcg64::from_u128_seed(0)),
             pcg64(Pcg64::from_seed_stream(42, 54)),
             pcg64(Pcg64::from_seed_stream(u128::MAX, u128::MAX)),
             pcg64(Pcg64::from_seed([7; 32])),
-            pcg64(Pcg64::from_parts(simple.next_wide(), 1 << 64)),
+            pcg64(Pcg64::from_parts(simple.wide(), 1 << 64)),
         ],
     }
 }
@@ -77,8 +76,7 @@ fn made(kind: usize) -> Vec<Random> {
 pub fn all(kind: usize) -> Vec<Random> {
     let mut all = made(kind);
     match kind {
-        0 => all
-            .extend([[0; 4], [u64::MAX; 4], [0, 0, 0, 1]].map(|state| xoshiro(Xoshiro256PlusPlus::from_parts(state)))),
+        0 => all.extend([[0; 4], [u64::MAX; 4], [0, 0, 0, 1]].map(|state| xoshiro(Xoshiro256PlusPlus::from_parts(state)))),
         1 => {
             for mt in [[0; 624], [u32::MAX; 624], [0x8000_0000; 624]] {
                 all.extend(POSITIONS.map(|mti| twister(mt, mti)));

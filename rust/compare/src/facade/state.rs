@@ -1,9 +1,10 @@
 //! The state: `seed` (after custom streams too), `split`, `mti`, `set_mti`, `twist` and equality.
 
-use super::{parts, port_of, starts, KINDS};
+use super::{parts, port_of, starts, Port, KINDS};
+use crate::fence::Fenced;
 use crate::seeds;
 use crate::tally::{Row, Tally};
-use vrd::{Parts, Random as Port, Refusal};
+use vrd::{Parts, Random, Refusal};
 use vrd_original::Random as Original;
 
 /// The ordered departure: the port stores at most this.
@@ -59,7 +60,8 @@ fn split(row: &mut Row, kind: usize) {
         let mut port = port_of(&original);
         for times in 1..=3 {
             match (original.split(), port.split()) {
-                (Some(mut child), Ok(mut other)) => {
+                (Some(mut child), Ok(other)) => {
+                    let mut other = Fenced::new(other);
                     same_parts(row, &child, &other, "split, of the child");
                     same_words(row, &mut child, &mut other, 100, "split, of the child");
                 }
@@ -108,16 +110,16 @@ fn equality(row: &mut Row, kind: usize) {
         let left = port_of(&one);
         for other in &others {
             let what = || format!("{one:?} == {other:?}");
-            row.case(one == *other, left == port_of(other), what);
+            row.case(one == *other, *left == *port_of(other), what);
         }
         for bit in 0..256 {
-            row.case(false, left == changed(left.parts(), bit), || format!("bit {bit} changed"));
+            row.case(false, *left == changed(left.parts(), bit), || format!("bit {bit} changed"));
         }
     }
 }
 
 /// A generator that differs in one bit: of the table every entry has its turn, and then the position.
-fn changed(parts: Parts<'_>, bit: usize) -> Port {
+fn changed(parts: Parts<'_>, bit: usize) -> Random {
     let changed = match parts {
         Parts::Xoshiro256PlusPlus(mut words) => {
             words[bit / 64] ^= 1 << (bit % 64);
@@ -127,7 +129,7 @@ fn changed(parts: Parts<'_>, bit: usize) -> Port {
         Parts::MersenneTwister { table, mti } => {
             let mut table = *table;
             table[(bit * 39 + 623) % 624] ^= 1 << (bit % 32);
-            return Port::from_parts(Parts::MersenneTwister { table: &table, mti });
+            return Random::from_parts(Parts::MersenneTwister { table: &table, mti });
         }
         Parts::Pcg32 { state, inc } => match (bit / 64) % 2 {
             0 => Parts::Pcg32 { state: state ^ (1 << (bit % 64)), inc },
@@ -138,5 +140,5 @@ fn changed(parts: Parts<'_>, bit: usize) -> Port {
             _ => Parts::Pcg64 { state, inc: inc ^ (1 << (bit % 128)) },
         },
     };
-    Port::from_parts(changed)
+    Random::from_parts(changed)
 }

@@ -1,10 +1,9 @@
 //! Words as they come, floats among them: `rand`, `u64`, `i64`, `pseudo`, `float` and `double`, from every start of every kind. A float
 //! is compared by its bits.
 
-use super::{parts, port_of, starts, KINDS};
+use super::{parts, port_of, starts, Port, KINDS};
 use crate::tally::{Row, Tally};
 use crate::STEP_WORDS;
-use vrd::Random as Port;
 use vrd_original::Random as Original;
 
 /// A call on both sides, its answer as 64 bits.
