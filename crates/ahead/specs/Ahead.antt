@@ -23,15 +23,18 @@ pub record WordsPut (g : Random) (n : ℕ) (l l′ : List ℕ) (h : Random) : Ty
   pub words : l′ ≡ firstWords (wordsOf g) n ++ drop n l
   pub moved : h ≡ later n g
 
--- The same of each kind. The twister beside another kind may be any.
+-- The same of Xoshiro256++. The twister beside a kind that is not the twister may be any.
 abbrev pub XoshiroPut : xoshiro-type.Xoshiro256PlusPlus → ℕ → List ℕ → List ℕ → xoshiro-type.Xoshiro256PlusPlus → Type 0
 XoshiroPut x n l l′ y = (t : twister-type.MersenneTwister) → WordsPut (gen (Xoshiro256PlusPlus x) t) n l l′ (gen (Xoshiro256PlusPlus y) t)
 
+-- The same of Pcg32.
 abbrev pub Pcg32Put : pcg32-type.Pcg32 → ℕ → List ℕ → List ℕ → pcg32-type.Pcg32 → Type 0
 Pcg32Put p n l l′ q = (t : twister-type.MersenneTwister) → WordsPut (gen (Pcg32 p) t) n l l′ (gen (Pcg32 q) t)
 
+-- The same of Pcg64.
 abbrev pub Pcg64Put : pcg64-type.Pcg64 → ℕ → List ℕ → List ℕ → pcg64-type.Pcg64 → Type 0
 Pcg64Put p n l l′ q = (t : twister-type.MersenneTwister) → WordsPut (gen (Pcg64 p) t) n l l′ (gen (Pcg64 q) t)
 
+-- The same of the twister, by its table and position.
 abbrev pub TwisterPut : List ℕ → ℕ → ℕ → List ℕ → List ℕ → List ℕ → ℕ → Type 0
 TwisterPut m p n l l′ m′ p′ = WordsPut (gen MersenneTwister (held m p)) n l l′ (gen MersenneTwister (held m′ p′))

@@ -1,5 +1,5 @@
-// The next words of a generator, one for each entry of a list, over a lent table. Each kind has a loop of its own, so code that takes many words
-// asks for the kind once.
+// The next words of a generator, one for each entry of a list, over a lent table. Each kind has a loop of its own, so code that takes many
+// words asks for the kind once.
 ghost use Rattle.ahead.specs.Ahead.{XoshiroPut, TwisterPut, Pcg32Put, Pcg64Put};
 ghost use Rattle.ahead.specs.Promises.{WordsInPromise};
 ghost use lib.ListN.{length};
@@ -53,7 +53,8 @@ fn pcg64_words(p: Pcg64, list: &mut [u32]) -> Pcg64
 }
 
 fn twister_words(mt: &mut [u32; 624], mti: u32, list: &mut [u32]) -> u32
-    ensures { λ r. ⌜ TwisterPut (now (mt .entry)) mti (length (now (list .entry))) (now (list .entry)) (now (list .exit)) (now (mt .exit)) r ⌝ }
+    ensures { λ r. ⌜ TwisterPut (now (mt .entry)) mti (length (now (list .entry))) (now (list .entry)) (now (list .exit))
+        (now (mt .exit)) r ⌝ }
 {
     let mut at = mti;
     let mut i: usize = 0;

@@ -1,5 +1,5 @@
--- The plan of a day over any sequence of words (the order: "It draws at random which inlet opens next and where blanks go"; "each inlet to have
--- exactly its share"). A day is a list of slots: a blank is 0, and the inlets are 1, 2, ..
+-- The plan of a day over any sequence of words (the order: "It draws at random which inlet opens next and where blanks go"; "each inlet to
+-- have exactly its share"). A day is a list of slots: a blank is 0, and the inlets are 1, 2, ..
 use mathlib.Core.Bool.{cond}
 use mathlib.Core.List.{List, [], _∷_, _++_}
 use Prim.Native.Nat.{ℕ, zero, suc, _+_, _-_, min}
@@ -9,6 +9,7 @@ use Rattle.words.specs.Refusal.{answered}
 use Rattle.words.specs.Draw.{Words}
 use Rattle.shuffle.specs.Shuffle.{shuffleBy, shuffled}
 
+-- a slot in which no inlet opens
 abbrev pub blank : ℕ
 blank = 0
 

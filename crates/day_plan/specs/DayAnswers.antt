@@ -29,7 +29,8 @@ module _ {o : Outcome} (e : Engine) (mt day : List ℕ) (blanks budget : ℕ) (t
   refusal-told = sym (ap (λ (x : Outcome). x .refusal) told)
 
   -- The plan is refused, and nothing has changed;
-  pub planned-refused : {a : EngineAnswer} → (o .refusal ≡ answered → ⊥) → a ≡ answerIn o e → PlanDayInPromise e mt day blanks budget a mt day
+  pub planned-refused : {a : EngineAnswer} → (o .refusal ≡ answered → ⊥) → a ≡ answerIn o e
+      → PlanDayInPromise e mt day blanks budget a mt day
   planned-refused n p =
       let whole = shuffled-refused e mt day budget told n p in
       (whole .0, sym (plan-refused (wordsOf (joinedWith e mt)) blanks day budget (λ z. n (sym refusal-told ∙ z))))

@@ -1,5 +1,5 @@
--- "each inlet to have exactly its share" (the order): in a day that is planned, every inlet stands once, a blank stands in as many slots as there are
--- blanks, and nothing else stands in any slot.
+-- "each inlet to have exactly its share" (the order): in a day that is planned, every inlet stands once, a blank stands in as many slots as
+-- there are blanks, and nothing else stands in any slot.
 use mathlib.Core.Path.{_≡_, refl, sym, _∙_, ap}
 use mathlib.Core.List.{List, [], _∷_, _++_, append-nil}
 use Prim.Native.Nat.{ℕ, zero, suc, _+_, _-_, _≤_, _<_, min}
@@ -66,6 +66,7 @@ among-inlets x k (suc n) l h =
     ]
 
 module _ (inlets blanks : ℕ) where
+  -- A day laid out has these shares.
   pub laid-shares : Shares inlets blanks (laidOut blanks (inlets + blanks))
   unfolding laidOut
   laid-shares = record {
@@ -93,6 +94,7 @@ all-blanks blanks n h =
 
 -- ---- a shuffle has the same entries: so the plan has these shares, whatever the words
 
+-- In a day that is planned, of as many slots as inlets and blanks, each has its share.
 pub each-has-its-share : (s : Words) (inlets blanks : ℕ) (l : List ℕ) (budget : ℕ) → length l ≡ inlets + blanks
     → shuffleBy s (length l) budget .refusal ≡ answered → Shares inlets blanks (plannedDay s blanks l budget)
 each-has-its-share s inlets blanks l budget e a = record {
@@ -102,4 +104,5 @@ each-has-its-share s inlets blanks l budget e a = record {
 }
   where
     same : (x : ℕ) → howMany x (plannedDay s blanks l budget) ≡ howMany x (laidOut blanks (inlets + blanks))
-    same x = ap (howMany x) (plan-answered s blanks l budget a) ∙ same-entries s (laidOut blanks (length l)) budget x ∙ ap (λ (n : ℕ). howMany x (laidOut blanks n)) e
+    same x = ap (howMany x) (plan-answered s blanks l budget a) ∙ same-entries s (laidOut blanks (length l)) budget x
+        ∙ ap (λ (n : ℕ). howMany x (laidOut blanks n)) e

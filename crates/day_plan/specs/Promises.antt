@@ -18,5 +18,6 @@ abbrev pub PlanDayPromise : Random → List ℕ → ℕ → ℕ → Answer → L
 PlanDayPromise g day blanks budget a day′ =
     (a ≡ answerFrom g (shuffleBy (wordsOf g) (length day) budget)) × (day′ ≡ plannedDay (wordsOf g) blanks day budget)
 
+-- The same over a lent table: of the generator that the engine and the table make.
 abbrev pub PlanDayInPromise : Engine → List ℕ → List ℕ → ℕ → ℕ → EngineAnswer → List ℕ → List ℕ → Type 0
 PlanDayInPromise e mt day blanks budget a mt′ day′ = PlanDayPromise (joinedWith e mt) day blanks budget (joinedAnswer a mt′) day′

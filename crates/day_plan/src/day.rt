@@ -8,8 +8,8 @@ use random::Engine;
 use random::Random;
 use words::refusal;
 
-// So many blanks and each inlet once, in an order drawn at random: 0 is a blank, and 1, 2, .. the inlets. Where it is refused, day and table are
-// as they came.
+// So many blanks and each inlet once, in an order drawn at random: 0 is a blank, and 1, 2, .. the inlets. Where it is refused, day and
+// table are as they came.
 pub fn plan_day_in(
     e: Engine,
     mt: &mut [u32; 624],

@@ -9,6 +9,7 @@ use Rattle.rehearsal.specs.Bounds.{boundAfter, boundsFrom}
 
 -- ---- the bound after some draws
 
+-- Before the first draw the bound is the first one.
 pub bound-none : (falls : Bool) (first : ℕ) → boundAfter falls first 0 ≡ first
 bound-none true first = omega arith
 bound-none false first = refl
@@ -20,10 +21,12 @@ bound-more false first j k = refl
 
 -- ---- the bounds of so many draws
 
+-- Where no draw is made there is no bound.
 pub bounds-none : (r : ℕ) (falls : Bool) → boundsFrom r falls 0 ≡ []
 unfolding boundsFrom
 bounds-none r falls = refl
 
+-- Where a draw is left, its bound comes first, and then those of the draws after it.
 pub bounds-some : (r : ℕ) (falls : Bool) (n : ℕ) → 0 < n → boundsFrom r falls n ≡ r ∷ boundsFrom (boundAfter falls r 1) falls (n - 1)
 unfolding boundsFrom
 bounds-some r falls zero h = absurd (omega arith)
@@ -31,6 +34,7 @@ bounds-some r falls (suc n) h =
     let a : suc n - 1 ≡ n = omega arith in
     rw a
 
+-- There is a bound for each draw.
 pub bounds-length : (r : ℕ) (falls : Bool) (n : ℕ) → length (boundsFrom r falls n) ≡ n
 unfolding boundsFrom
 bounds-length r falls zero = refl
@@ -45,7 +49,8 @@ bound-at r falls (suc n) zero h = ap (λ (x : ℕ). x) (go falls)
     go : (f : Bool) → r ≡ boundAfter f r 0
     go true = omega arith
     go false = refl
-bound-at r falls (suc n) (suc j) h = bound-at (boundAfter falls r 1) falls n j (omega arith) ∙ bound-more falls r 1 j ∙ ap (boundAfter falls r) (omega arith)
+bound-at r falls (suc n) (suc j) h =
+    bound-at (boundAfter falls r 1) falls n j (omega arith) ∙ bound-more falls r 1 j ∙ ap (boundAfter falls r) (omega arith)
 
 -- the bounds before the j-th, it, and those after it
 pub bounds-split : (r : ℕ) (falls : Bool) (j k : ℕ)

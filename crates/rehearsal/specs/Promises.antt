@@ -21,12 +21,16 @@ SettlePromise list r falls n list′ =
     (n ≡ settledAfter (listed list) r falls (length list))
     × (list′ ≡ valuesAfter (listed list) r falls (length list) ++ drop (settledAfter (listed list) r falls (length list)) list)
 
+-- A turn: the words that it takes of the generator, and the values that they settle in front of the block.
 abbrev pub TakeTurnPromise : Draws → Turn → List ℕ → List ℕ → Turn → List ℕ → List ℕ → Type 0
 TakeTurnPromise d t mt block t′ mt′ block′ =
-    Turned d t mt block (wordsTaken d t (length block)) (valuesTaken d t (wordsOf (joinedWith (t .next) mt)) (wordsTaken d t (length block))) t′ mt′ block′
+    Turned d t mt block (wordsTaken d t (length block))
+    (valuesTaken d t (wordsOf (joinedWith (t .next) mt)) (wordsTaken d t (length block))) t′ mt′ block′
 
+-- What the draws come to with the generator's words.
 abbrev pub RehearsePromise : Draws → Engine → List ℕ → Rehearsed → Type 0
 RehearsePromise d e mt r = r ≡ rehearsedOf (drawsOf (wordsOf (joinedWith e mt)) d)
 
+-- The table stays.
 abbrev pub RehearseTablePromise : List ℕ → List ℕ → Type 0
 RehearseTablePromise mt mt′ = mt′ ≡ mt

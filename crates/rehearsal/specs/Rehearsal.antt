@@ -1,5 +1,5 @@
--- So many draws under one budget over any sequence of words, and what a rehearsal of them says: whether all are settled within the budget, the words
--- they use, and how many are settled. Where they are not all settled no word counts as used.
+-- So many draws under one budget over any sequence of words, and what a rehearsal of them says: whether all are settled within the budget,
+-- the words they use, and how many are settled. Where they are not all settled no word counts as used.
 use mathlib.Core.Bool.{Bool, true, false}
 use Prim.Native.Nat.{ℕ}
 use lib.ListN.{length}
@@ -12,6 +12,7 @@ use Rattle.rehearsal.specs.declared.turns.Draws.{Draws}
 abbrev pub drawsOf : Words → Draws → Drawn
 drawsOf s d = draws s (boundsFrom (d .first) (d .falls) (d .count)) (d .budget)
 
+-- What a rehearsal says, of its three parts.
 abbrev pub tell : Bool → ℕ → ℕ → Rehearsed
 tell complete used settled = record { complete = complete; used = used; settled = settled }
 

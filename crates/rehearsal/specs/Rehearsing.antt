@@ -1,5 +1,5 @@
--- Draws below so many bounds under one budget, for code that looks at one word after the other: what holds after some words, and what it comes to
--- at the end. The values so far are those that the words taken settle (`valuesAfter`), whatever gives the words.
+-- Draws below so many bounds under one budget, for code that looks at one word after the other: what holds after some words, and what it
+-- comes to at the end. The values so far are those that the words taken settle (`valuesAfter`), whatever gives the words.
 use mathlib.Core.Path.{_≡_, refl, sym, _∙_, ap}
 use mathlib.Core.Bool.{Bool, true, false}
 use mathlib.Core.List.{List, [], _∷_, _++_}
@@ -22,6 +22,7 @@ pub record Rehearsing (s : Words) (first : ℕ) (falls : Bool) (count budget tak
   pub under : Underway s (boundsFrom first falls count) budget taken (valuesAfter s first falls taken)
       (boundsFrom (boundLeft s first falls taken) falls (count - settledAfter s first falls taken))
 
+-- Before the first word no draw is settled.
 pub rehearsing-start : (s : Words) (first : ℕ) (falls : Bool) (count budget : ℕ) → Rehearsing s first falls count budget 0
 unfolding valuesAfter
 rehearsing-start s first falls count budget =
@@ -32,13 +33,15 @@ module _ (s : Words) (first : ℕ) (falls : Bool) (count budget : ℕ) where
   -- a draw is left, and it is below the bound that is left
   left : (taken : ℕ) → Rehearsing s first falls count budget taken → settledAfter s first falls taken < count
       → Underway s (boundsFrom first falls count) budget taken (valuesAfter s first falls taken)
-      (boundLeft s first falls taken ∷ boundsFrom (boundAfter falls (boundLeft s first falls taken) 1) falls (count - settledAfter s first falls taken - 1))
+      (boundLeft s first falls taken
+      ∷ boundsFrom (boundAfter falls (boundLeft s first falls taken) 1) falls (count - settledAfter s first falls taken - 1))
   left taken h m =
       rw (bounds-some (boundLeft s first falls taken) falls (count - settledAfter s first falls taken) (omega arith)) at (h .under)
 
   -- the words taken have settled vs
   standing : (taken : ℕ) {vs : List ℕ} → valuesAfter s first falls taken ≡ vs → length vs ≤ count
-      → Underway s (boundsFrom first falls count) budget taken vs (boundsFrom (boundAfter falls first (length vs)) falls (count - length vs))
+      → Underway s (boundsFrom first falls count) budget taken vs
+      (boundsFrom (boundAfter falls first (length vs)) falls (count - length vs))
       → Rehearsing s first falls count budget taken
   standing taken e m u = record { most = rw e m; under = rw e u }
 
@@ -54,10 +57,12 @@ module _ (s : Words) (first : ℕ) (falls : Bool) (count budget : ℕ) where
       (rw long (rw (bound-more falls first k 1, z) at (underway-good (left taken h m) u g)))
   one-more taken false g h m u =
       standing (taken + 1) (values-bad s first falls taken g) (h .most)
-      (rw (bounds-some (boundLeft s first falls taken) falls (count - settledAfter s first falls taken) (omega arith)) (underway-bad (left taken h m) u g))
+      (rw (bounds-some (boundLeft s first falls taken) falls (count - settledAfter s first falls taken) (omega arith))
+      (underway-bad (left taken h m) u g))
 
   -- n words more, where n draws are left
-  pub rehearsing-on : (taken n : ℕ) → Rehearsing s first falls count budget taken → settledAfter s first falls taken + n ≤ count → taken + n ≤ budget
+  pub rehearsing-on : (taken n : ℕ) → Rehearsing s first falls count budget taken → settledAfter s first falls taken + n ≤ count
+      → taken + n ≤ budget
       → Rehearsing s first falls count budget (taken + n)
   rehearsing-on taken zero h m u = rw add-zero h
   rehearsing-on taken (suc n) h m u =
@@ -67,11 +72,13 @@ module _ (s : Words) (first : ℕ) (falls : Bool) (count budget : ℕ) where
       rw one (one-more (taken + n) (good (boundLeft s first falls (taken + n)) (s (taken + n))) refl before (omega arith) (omega arith))
 
   module _ (taken : ℕ) (h : Rehearsing s first falls count budget taken) where
+    -- No more words are taken than the budget has.
     pub rehearsing-within : taken ≤ budget
     rehearsing-within = h .under .within
 
     -- All draws are settled,
-    pub rehearsing-done : count ≤ settledAfter s first falls taken → draws s (boundsFrom first falls count) budget ≡ all (valuesAfter s first falls taken) taken
+    pub rehearsing-done : count ≤ settledAfter s first falls taken
+        → draws s (boundsFrom first falls count) budget ≡ all (valuesAfter s first falls taken) taken
     rehearsing-done m =
         let z : count - settledAfter s first falls taken ≡ 0 = let most = h .most in omega arith in
         underway-done (rw (z, bounds-none (boundLeft s first falls taken) falls) at (h .under))
@@ -85,9 +92,13 @@ module _ (s : Words) (first : ℕ) (falls : Bool) (count budget : ℕ) where
   abbrev Ends : ℕ → Type 0
   Ends m = (count ≤ settledAfter s first falls m) ⊎ ((settledAfter s first falls m < count) × (budget ≤ m))
 
-  reach : (fuel taken : ℕ) → taken + fuel ≡ budget → Rehearsing s first falls count budget taken → (m : ℕ) × Rehearsing s first falls count budget m × Ends m
+  reach : (fuel taken : ℕ) → taken + fuel ≡ budget → Rehearsing s first falls count budget taken
+      → (m : ℕ) × Rehearsing s first falls count budget m × Ends m
   reach zero taken e h =
-      elim (decLe count (settledAfter s first falls taken)) [ yes c ↦ (taken, h, inl c) | no c ↦ (taken, h, inr (lt-of-not-le c, omega arith)) ]
+      elim (decLe count (settledAfter s first falls taken)) [
+        | yes c ↦ (taken, h, inl c)
+        | no c ↦ (taken, h, inr (lt-of-not-le c, omega arith))
+      ]
   reach (suc k) taken e h =
       elim (decLe count (settledAfter s first falls taken)) [
         | yes c ↦ (taken, h, inl c)

@@ -20,6 +20,7 @@ pub record Settling (l₀ : List ℕ) (first : ℕ) (falls : Bool) (i k b : ℕ)
   pub bound : b ≡ boundLeft (listed l₀) first falls i
   pub list : l ≡ valuesAfter (listed l₀) first falls i ++ drop (settledAfter (listed l₀) first falls i) l₀
 
+-- Before the first word the list is as it came.
 pub settling-start : (l : List ℕ) (first : ℕ) (falls : Bool) → Settling l first falls 0 0 first l
 unfolding valuesAfter
 settling-start l first falls = record { within = omega arith; counted = refl; bound = sym (bound-none falls first); list = refl }
@@ -34,6 +35,7 @@ module _ {l₀ : List ℕ} {first : ℕ} {falls : Bool} {i k b : ℕ} {l : List 
       let some = rw z at few in
       omega (arith, h .counted, some, none)
 
+  -- the list keeps its length
   pub settling-length : length l ≡ length l₀
   settling-length =
       let few = settling-few in
@@ -58,7 +60,8 @@ module _ {l₀ : List ℕ} {first : ℕ} {falls : Bool} {i k b : ℕ} {l : List 
     settling-good {v} g q next = record {
       within = omega arith;
       counted = ap (λ (x : ℕ). x + 1) (h .counted) ∙ sym (settled-good s first falls i here);
-      bound = next ∙ ap (λ (x : ℕ). boundAfter falls x 1) (h .bound) ∙ bound-more falls first n 1 ∙ ap (boundAfter falls first) (sym (settled-good s first falls i here));
+      bound = next ∙ ap (λ (x : ℕ). boundAfter falls x 1) (h .bound) ∙ bound-more falls first n 1
+          ∙ ap (boundAfter falls first) (sym (settled-good s first falls i here));
       list = put ∙ rw (settled-good s first falls i here, values-good s first falls i here, add-one, append-assoc);
     }
       where
@@ -81,7 +84,8 @@ module _ {l₀ : List ℕ} {first : ℕ} {falls : Bool} {i k b : ℕ} {l : List 
         room = omega (arith, h .counted, settling-few)
 
         put : set l k v ≡ vs ++ (quotient (boundLeft s first falls i) (s i) ∷ drop (suc n) l₀)
-        put = ap (λ (x : ℕ). set l x v) (h .counted) ∙ ap (λ (x : List ℕ). set x n v) (h .list ∙ ap (λ (x : List ℕ). vs ++ x) (drop-cons l₀ n 0 room))
+        put = ap (λ (x : ℕ). set l x v) (h .counted)
+            ∙ ap (λ (x : List ℕ). set x n v) (h .list ∙ ap (λ (x : List ℕ). vs ++ x) (drop-cons l₀ n 0 room))
             ∙ set-append-seam vs (getD l₀ n 0) (drop (suc n) l₀) v ∙ ap (λ (x : ℕ). vs ++ (x ∷ drop (suc n) l₀)) value
 
     -- or it does not.

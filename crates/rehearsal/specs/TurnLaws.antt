@@ -19,7 +19,8 @@ use Rattle.rehearsal.specs.Values.{valuesAfter, settledAfter, boundLeft}
 use Rattle.rehearsal.specs.ValuesLaws.{values-none, values-more, values-same, settled-few}
 use Rattle.rehearsal.specs.Turns.{SettledWords, wordsTaken, valuesTaken}
 use Rattle.rehearsal.specs.Rehearsal.{drawsOf, tell, rehearsedOf}
-use Rattle.rehearsal.specs.Rehearsing.{Rehearsing, rehearsing-start, rehearsing-on, rehearsing-within, rehearsing-done, rehearsing-out}
+use Rattle.rehearsal.specs.Rehearsing.{Rehearsing, rehearsing-start, rehearsing-on, rehearsing-within}
+use Rattle.rehearsal.specs.Rehearsing.{rehearsing-done, rehearsing-out}
 use Rattle.rehearsal.specs.Promises.{TakeTurnPromise}
 use Rattle.rehearsal.specs.declared.turns.Draws.{Draws}
 use Rattle.rehearsal.specs.declared.turns.Turn.{Turn}
@@ -27,12 +28,16 @@ use Rattle.rehearsal.specs.declared.turns.Turn.{Turn}
 -- ---- words put into a list, and the draws that they settle
 
 -- the words of a list are those of the sequence
-pub values-listed : (s : Words) (r : ℕ) (falls : Bool) (n : ℕ) → valuesAfter (listed (firstWords s n)) r falls (length (firstWords s n)) ≡ valuesAfter s r falls n
+pub values-listed : (s : Words) (r : ℕ) (falls : Bool) (n : ℕ)
+    → valuesAfter (listed (firstWords s n)) r falls (length (firstWords s n)) ≡ valuesAfter s r falls n
 values-listed s r falls n =
-    ap (valuesAfter (listed (firstWords s n)) r falls) (words-length s n) ∙ values-same (listed (firstWords s n)) s r falls n (λ j h. word-there s n j h)
+    ap (valuesAfter (listed (firstWords s n)) r falls) (words-length s n)
+    ∙ values-same (listed (firstWords s n)) s r falls n (λ j h. word-there s n j h)
 
+-- The words of a generator put into a list, and the draws that the list settles, are draws that the generator's words settle.
 pub words-settled : {g h : Random} {n count : ℕ} {l l′ : List ℕ} (r : ℕ) (falls : Bool) → l ≡ firstWords (wordsOf g) n → h ≡ later n g
-    → (count ≡ settledAfter (listed l) r falls (length l)) × (l′ ≡ valuesAfter (listed l) r falls (length l) ++ drop (settledAfter (listed l) r falls (length l)) l)
+    → (count ≡ settledAfter (listed l) r falls (length l))
+    × (l′ ≡ valuesAfter (listed l) r falls (length l) ++ drop (settledAfter (listed l) r falls (length l)) l)
     → SettledWords g r falls n h count l′
 words-settled {g} {n = n} r falls w m p =
     let same = values-listed (wordsOf g) r falls n in
@@ -53,7 +58,9 @@ settled-few-words {g} {r = r} {falls} {n} p =
 part-length : (d : Draws) (t : Turn) (block : List ℕ) → length (take (wordsTaken d t (length block)) block) ≡ wordsTaken d t (length block)
 part-length d t block = length-take-le (wordsTaken d t (length block)) block (omega arith)
 
-pub turn-built : {e : Engine} {n r count : ℕ} {mt′ list : List ℕ} (d : Draws) (t : Turn) (mt block : List ℕ) → n ≡ wordsTaken d t (length block)
+-- The words that the block's first part takes, and the draws that they settle from the bound where they stand, are a turn.
+pub turn-built : {e : Engine} {n r count : ℕ} {mt′ list : List ℕ} (d : Draws) (t : Turn) (mt block : List ℕ)
+    → n ≡ wordsTaken d t (length block)
     → r ≡ boundAfter (d .falls) (d .first) (t .settled)
     → SettledWords (joinedWith (t .next) mt) r (d .falls) (length (take n block)) (joinedWith e mt′) count list
     → TakeTurnPromise d t mt block (record { next = e; used = t .used + n; settled = t .settled + count }) mt′ (list ++ drop n block)
@@ -79,18 +86,23 @@ pub record Standing (g : Random) (d : Draws) (t : Turn) (cur : Random) : Type 0 
   pub settled : t .settled ≡ settledAfter (wordsOf g) (d .first) (d .falls) (t .used)
   pub rehearsing : Rehearsing (wordsOf g) (d .first) (d .falls) (d .count) (d .budget) (t .used)
 
-pub standing-start : (d : Draws) (e : Engine) (mt : List ℕ) → Standing (joinedWith e mt) d (record { next = e; used = 0; settled = 0 }) (joinedWith e mt)
+-- Before the first turn no word is taken and no draw settled.
+pub standing-start : (d : Draws) (e : Engine) (mt : List ℕ)
+    → Standing (joinedWith e mt) d (record { next = e; used = 0; settled = 0 }) (joinedWith e mt)
 standing-start d e mt = record {
   moved = sym (later-none (joinedWith e mt));
   settled = sym (ap length (values-none (wordsOf (joinedWith e mt)) (d .first) (d .falls)));
   rehearsing = rehearsing-start (wordsOf (joinedWith e mt)) (d .first) (d .falls) (d .count) (d .budget);
 }
 
-module _ {g : Random} {d : Draws} {t : Turn} (mt block : List ℕ) {t′ : Turn} {mt′ block′ : List ℕ} (h : Standing g d t (joinedWith (t .next) mt))
+module _ {g : Random} {d : Draws} {t : Turn} (mt block : List ℕ) {t′ : Turn} {mt′ block′ : List ℕ}
+    (h : Standing g d t (joinedWith (t .next) mt))
     (p : TakeTurnPromise d t mt block t′ mt′ block′) where
+  -- the words of the generator at the start
   abbrev s : Words
   s = wordsOf g
 
+  -- the words that the turn takes
   abbrev n : ℕ
   n = wordsTaken d t (length block)
 
@@ -101,10 +113,12 @@ module _ {g : Random} {d : Draws} {t : Turn} (mt block : List ℕ) {t′ : Turn}
   fresh-on : fresh ≡ valuesAfter (after (t .used) s) (boundLeft s (d .first) (d .falls) (t .used)) (d .falls) n
   fresh-on = rw (h .moved, words-after (t .used) g, h .settled)
 
+  -- The values after the turn are those before it, and then its own.
   pub values-on : valuesAfter s (d .first) (d .falls) (t′ .used) ≡ valuesAfter s (d .first) (d .falls) (t .used) ++ fresh
   values-on = ap (valuesAfter s (d .first) (d .falls)) (p .used) ∙ values-more s (d .first) (d .falls) (t .used) n
       ∙ ap (λ (x : List ℕ). valuesAfter s (d .first) (d .falls) (t .used) ++ x) (sym fresh-on)
 
+  -- Where a draw was left, the draws stand after the turn where the turn says.
   pub standing-on : t .settled < d .count → Standing g d t′ (joinedWith (t′ .next) mt′)
   standing-on more = record {
     moved = p .moved ∙ ap (later n) (h .moved) ∙ sym (later-add (t .used) n g) ∙ ap (λ (x : ℕ). later x g) (sym (p .used));
@@ -117,18 +131,21 @@ module _ {g : Random} {d : Draws} {t : Turn} (mt block : List ℕ) {t′ : Turn}
   }
 
 -- words are left, and so a turn takes some
-pub turn-takes : {d : Draws} {t : Turn} {t′ : Turn} {mt′ block′ : List ℕ} (mt block : List ℕ) → TakeTurnPromise d t mt block t′ mt′ block′ → 0 < length block
+pub turn-takes : {d : Draws} {t : Turn} {t′ : Turn} {mt′ block′ : List ℕ} (mt block : List ℕ) → TakeTurnPromise d t mt block t′ mt′ block′
+    → 0 < length block
     → t .settled < d .count → t .used < d .budget → (t .used < t′ .used) × (t′ .used ≤ d .budget)
 turn-takes mt block p some more left = let used = p .used in (omega arith, omega arith)
 
 -- ---- what a rehearsal says at its end
 
 module _ {g cur : Random} {d : Draws} {t : Turn} (h : Standing g d t cur) where
+  -- All draws are settled,
   pub standing-all : d .count ≤ t .settled → tell true (t .used) (t .settled) ≡ rehearsedOf (drawsOf (wordsOf g) d)
   standing-all m =
       let settled = h .settled in
       rw (rehearsing-done (wordsOf g) (d .first) (d .falls) (d .count) (d .budget) (t .used) (h .rehearsing) (omega arith), settled)
 
+  -- or the budget is used up.
   pub standing-short : t .settled < d .count → d .budget ≤ t .used → tell false 0 (t .settled) ≡ rehearsedOf (drawsOf (wordsOf g) d)
   standing-short m out =
       let settled = h .settled in

@@ -1,5 +1,5 @@
--- What words come to, one after the other, where draws are made below one bound after the other: the values that the first n of them settle.
--- Nothing here knows what gives the words, and no budget is asked for.
+-- What words come to, one after the other, where draws are made below one bound after the other: the values that the first n of them
+-- settle. Nothing here knows what gives the words, and no budget is asked for.
 use mathlib.Core.Bool.{Bool, cond}
 use mathlib.Core.List.{List, [], _∷_, _++_}
 use Prim.Native.Nat.{ℕ, zero, suc}
@@ -17,9 +17,10 @@ valuesAfter s first falls zero = []
 valuesAfter s first falls (suc n) =
     valuesAfter s first falls n ++ settledBy (boundAfter falls first (length (valuesAfter s first falls n))) (s n)
 
--- How many draws they settle, and the bound of the draw after them.
+-- How many draws they settle.
 abbrev pub settledAfter : Words → ℕ → Bool → ℕ → ℕ
 settledAfter s first falls n = length (valuesAfter s first falls n)
 
+-- The bound of the draw after them.
 abbrev pub boundLeft : Words → ℕ → Bool → ℕ → ℕ
 boundLeft s first falls n = boundAfter falls first (settledAfter s first falls n)

@@ -13,10 +13,12 @@ use Rattle.rehearsal.specs.BoundsLaws.{bound-none, bound-more}
 use Rattle.rehearsal.specs.Values.{settledBy, valuesAfter, settledAfter, boundLeft}
 
 module _ (s : Words) (first : ℕ) (falls : Bool) where
+  -- Before the first word nothing is settled.
   pub values-none : valuesAfter s first falls 0 ≡ []
   unfolding valuesAfter
   values-none = refl
 
+  -- One word more adds what it settles of the draw below the bound that is left.
   pub values-one : (n : ℕ) → valuesAfter s first falls (n + 1) ≡ valuesAfter s first falls n ++ settledBy (boundLeft s first falls n) (s n)
   unfolding valuesAfter
   values-one n = rw add-one
@@ -26,11 +28,14 @@ module _ (s : Words) (first : ℕ) (falls : Bool) where
       → valuesAfter s first falls (n + 1) ≡ valuesAfter s first falls n ++ (quotient (boundLeft s first falls n) (s n) ∷ [])
   values-good n g = values-one n ∙ rw g
 
-  pub settled-good : (n : ℕ) → good (boundLeft s first falls n) (s n) ≡ true → settledAfter s first falls (n + 1) ≡ settledAfter s first falls n + 1
+  -- and so one draw more is settled,
+  pub settled-good : (n : ℕ) → good (boundLeft s first falls n) (s n) ≡ true
+      → settledAfter s first falls (n + 1) ≡ settledAfter s first falls n + 1
   settled-good n g = ap length (values-good n g) ∙ simp length-append
 
   -- or none
-  pub values-bad : (n : ℕ) → good (boundLeft s first falls n) (s n) ≡ false → valuesAfter s first falls (n + 1) ≡ valuesAfter s first falls n
+  pub values-bad : (n : ℕ) → good (boundLeft s first falls n) (s n) ≡ false
+      → valuesAfter s first falls (n + 1) ≡ valuesAfter s first falls n
   values-bad n g = values-one n ∙ rw (g, append-nil)
 
   -- so a word settles at most one draw, and n words at most n.
@@ -38,6 +43,7 @@ module _ (s : Words) (first : ℕ) (falls : Bool) where
   few-by true v = omega arith
   few-by false v = omega arith
 
+  -- n words more settle at most n draws more.
   pub settled-few : (m n : ℕ) → settledAfter s first falls (m + n) ≤ settledAfter s first falls m + n
   settled-few m zero = rw add-zero (omega arith)
   settled-few m (suc n) =
@@ -64,7 +70,8 @@ values-more s first falls m (suc n) =
     (append-assoc vs ws (settledBy (boundAfter falls (boundLeft s first falls m) (length ws)) (s (m + n))))
 
 -- two sequences with the same first n words settle the same
-pub values-same : (s t : Words) (first : ℕ) (falls : Bool) (n : ℕ) → ((j : ℕ) → j < n → s j ≡ t j) → valuesAfter s first falls n ≡ valuesAfter t first falls n
+pub values-same : (s t : Words) (first : ℕ) (falls : Bool) (n : ℕ) → ((j : ℕ) → j < n → s j ≡ t j)
+    → valuesAfter s first falls n ≡ valuesAfter t first falls n
 values-same s t first falls zero h = values-none s first falls ∙ sym (values-none t first falls)
 values-same s t first falls (suc n) h =
     let before = values-same s t first falls n (λ j k. h j (omega arith)) in

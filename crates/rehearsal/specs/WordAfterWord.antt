@@ -22,7 +22,8 @@ missed-none : (s : Words) (rest : List ℕ) → Missed s rest 0
 missed-none s [] = refl
 missed-none s (r ∷ rs) = λ j h. absurd (omega arith)
 
--- After `taken` words: the draws that gave vs are settled, with `used` of the words, the bounds `rest` are left, and the words since missed.
+-- After `taken` words: the draws that gave vs are settled, with `used` of the words, the bounds `rest` are left, and the words since
+-- missed.
 pub record Underway (s : Words) (bounds : List ℕ) (budget taken : ℕ) (vs rest : List ℕ) : Type 0 where
   pub used : ℕ
   pub since : ℕ
@@ -31,6 +32,7 @@ pub record Underway (s : Words) (bounds : List ℕ) (budget taken : ℕ) (vs res
   pub running : Running s bounds budget used vs rest
   pub missed : Missed (after used s) rest since
 
+-- Before the first word no draw is settled and all bounds are left.
 pub underway-start : {s : Words} {bounds : List ℕ} {budget : ℕ} → Underway s bounds budget 0 [] bounds
 underway-start {s} {bounds} = record {
   used = 0;
@@ -61,7 +63,8 @@ module _ {s : Words} {bounds : List ℕ} {budget k : ℕ} {vs : List ℕ} where
         running = record {
           passed = run .passed ++ (r ∷ []);
           split = run .split ∙ sym (append-assoc (run .passed) (r ∷ []) rs);
-          drawn = next-settled s (run .passed) r budget (run .drawn) f ∙ ap (λ (j : ℕ). all (vs ++ (quotient r (s j) ∷ [])) (h .used + (h .since + 1))) (sym c);
+          drawn = next-settled s (run .passed) r budget (run .drawn) f
+              ∙ ap (λ (j : ℕ). all (vs ++ (quotient r (s j) ∷ [])) (h .used + (h .since + 1))) (sym c);
         };
         missed = missed-none (after (h .used + (h .since + 1)) s) rs;
       }

@@ -16,8 +16,8 @@ fn next_bound(r: u32, falls: bool) -> u32
     r
 }
 
-// How many draws these words settle, one after the other, the first below r and the further ones below bounds that fall or stay. Their values take
-// the place of the words, from the first entry on; the entries after them stay.
+// How many draws these words settle, one after the other, the first below r and the further ones below bounds that fall or stay. Their
+// values take the place of the words, from the first entry on; the entries after them stay.
 pub fn settle(list: &mut [u32], r: u32, falls: bool) -> usize
     ensures { λ n. ⌜ SettlePromise (now (list .entry)) r falls n (now (list .exit)) ⌝ }
 {

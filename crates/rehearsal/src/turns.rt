@@ -1,4 +1,5 @@
-// Draws from a generator, some words at a time: a turn takes as many words as the caller's block holds, and leaves the values that they settle there.
+// Draws from a generator, some words at a time: a turn takes as many words as the caller's block holds, and leaves the values that they
+// settle there.
 ghost use mathlib.Core.Path.{_≡_};
 ghost use Prim.Native.Nat.{_+_, _-_, _<_, min};
 ghost use lib.ListN.{length};
@@ -53,8 +54,8 @@ fn smaller(a: usize, b: usize) -> usize
     b
 }
 
-// How many words to take at once: no more than draws are left, so that no word is taken past the last draw; than the budget allows; or than the
-// block holds.
+// How many words to take at once: no more than draws are left, so that no word is taken past the last draw; than the budget allows; or than
+// the block holds.
 fn words_taken(d: Draws, t: Turn, block: usize) -> usize
     ensures taken { λ n. ⌜ n ≡ wordsTaken d t block ⌝ }
     ensures small { λ n. ⌜ (t .used + n < 4294967296) × (t .settled + n < 4294967296) ⌝ }
@@ -72,7 +73,8 @@ struct Settled {
 
 // The next words, one for each entry of the list, where draws are made below r and so on: the list begins with the values that they settle.
 fn settled_words(e: Engine, mt: &mut [u32; 624], list: &mut [u32], r: u32, falls: bool) -> Settled
-    ensures { λ a. ⌜ SettledWords (joinedWith e (now (mt .entry))) r falls (length (now (list .entry))) (joinedWith (a .next) (now (mt .exit))) (a .count) (now (list .exit)) ⌝ }
+    ensures { λ a. ⌜ SettledWords (joinedWith e (now (mt .entry))) r falls (length (now (list .entry)))
+        (joinedWith (a .next) (now (mt .exit))) (a .count) (now (list .exit)) ⌝ }
 {
     let next = ahead::words_in(e, mt, list);
     let count = settle(list, r, falls);

@@ -35,14 +35,17 @@ use Rattle.shuffle.specs.Promises.{PerformInPromise}
 
 -- ---- the draws by their cases
 
+-- A list above the limit has no draws.
 pub draws-long : (n budget : ℕ) → listLimit < n → shuffleDraws n budget ≡ drawsBelow 0 0 budget
 unfolding shuffleDraws
 draws-long n budget h = rw (lt-ltb listLimit n h)
 
+-- Any other list, of n entries, has n - 1 draws, the first below n.
 pub draws-fit : (n budget : ℕ) → n ≤ listLimit → shuffleDraws n budget ≡ drawsBelow n (n - 1) budget
 unfolding shuffleDraws
 draws-fit n budget h = rw (le-ltb listLimit n h)
 
+-- So draws that the code makes with that count are the shuffle's.
 pub draws-made : {count : ℕ} (n budget : ℕ) → n ≤ listLimit → count ≡ n - 1 → drawsBelow n count budget ≡ shuffleDraws n budget
 draws-made n budget h e = ap (λ (x : ℕ). drawsBelow n x budget) e ∙ sym (draws-fit n budget h)
 
@@ -53,6 +56,7 @@ pub record Performing (g : Random) (d : Draws) (l₀ : List ℕ) (t : Turn) (cur
   pub standing : Standing g d t cur
   pub list : l ≡ arranged (d .count) (valuesAfter (wordsOf g) (d .first) (d .falls) (t .used)) l₀
 
+-- Before the first turn the list is as it came.
 pub performing-start : (d : Draws) (e : Engine) (mt l : List ℕ)
     → Performing (joinedWith e mt) d l (record { next = e; used = 0; settled = 0 }) (joinedWith e mt) l
 performing-start d e mt l = record {
@@ -60,7 +64,9 @@ performing-start d e mt l = record {
   list = sym (rw (values-none (wordsOf (joinedWith e mt)) (d .first) (d .falls)) (arranged-none (d .count) l));
 }
 
-pub performing-length : {g : Random} {d : Draws} {l₀ : List ℕ} {t : Turn} {cur : Random} {l : List ℕ} → Performing g d l₀ t cur l → length l ≡ length l₀
+-- The list keeps its length.
+pub performing-length : {g : Random} {d : Draws} {l₀ : List ℕ} {t : Turn} {cur : Random} {l : List ℕ}
+    → Performing g d l₀ t cur l → length l ≡ length l₀
 performing-length {g} {d} {l₀} {t} h =
     ap length (h .list) ∙ length-arranged (d .count) (valuesAfter (wordsOf g) (d .first) (d .falls) (t .used)) l₀
 
@@ -70,7 +76,9 @@ pub record TurnSwapped (d : Draws) (t : Turn) (mt l block : List ℕ) (t′ : Tu
   pub list : l′ ≡ arranged (d .count - t .settled) (valuesTaken d t (wordsOf (joinedWith (t .next) mt)) (wordsTaken d t (length block))) l
 
 -- what the code of such a turn builds: the block begins with the turn's values
-module _ {t′ : Turn} {mt′ block′ : List ℕ} (d : Draws) (t : Turn) (mt block : List ℕ) (p : TakeTurnPromise d t mt block t′ mt′ block′) where
+module _ {t′ : Turn} {mt′ block′ : List ℕ} (d : Draws) (t : Turn) (mt block : List ℕ)
+    (p : TakeTurnPromise d t mt block t′ mt′ block′) where
+  -- the values of the turn
   abbrev vs : List ℕ
   vs = valuesTaken d t (wordsOf (joinedWith (t .next) mt)) (wordsTaken d t (length block))
 
@@ -80,7 +88,9 @@ module _ {t′ : Turn} {mt′ block′ : List ℕ} (d : Draws) (t : Turn) (mt bl
       let m : t′ .settled - t .settled ≡ length vs = omega arith in
       rw (m, p .holds, append-assoc) (take-append-seam vs _)
 
-  pub turn-swapped : {last : ℕ} {l l′ : List ℕ} → last ≡ d .count - t .settled → l′ ≡ arranged last (take (t′ .settled - t .settled) block′) l
+  -- So the swaps with the first entries of the block are those of the turn,
+  pub turn-swapped : {last : ℕ} {l l′ : List ℕ} → last ≡ d .count - t .settled
+      → l′ ≡ arranged last (take (t′ .settled - t .settled) block′) l
       → TurnSwapped d t mt l block t′ mt′ l′ block′
   turn-swapped e q = record { turn = p; list = rw (values-there, e) at q }
 
@@ -92,12 +102,14 @@ module _ {t′ : Turn} {mt′ block′ : List ℕ} (d : Draws) (t : Turn) (mt bl
       let long = simp (length-append, append-assoc) at held in
       omega (arith, long)
 
+-- Where a draw was left, a turn with its swaps goes on from where the draws and the list stand.
 pub performing-on : {g : Random} {d : Draws} {l₀ : List ℕ} {t t′ : Turn} {mt′ block′ l l′ : List ℕ} (mt block : List ℕ)
     → Performing g d l₀ t (joinedWith (t .next) mt) l → TurnSwapped d t mt l block t′ mt′ l′ block′ → t .settled < d .count
     → Performing g d l₀ t′ (joinedWith (t′ .next) mt′) l′
 performing-on {g} {d} {l₀} {t} {l = l} mt block h p more = record {
   standing = standing-on mt block (h .standing) (p .turn) more;
-  list = p .list ∙ ap (λ (x : ℕ). arranged (d .count - x) vs l) (h .standing .settled) ∙ ap (arranged (d .count - length before) vs) (h .list)
+  list = p .list ∙ ap (λ (x : ℕ). arranged (d .count - x) vs l) (h .standing .settled)
+      ∙ ap (arranged (d .count - length before) vs) (h .list)
       ∙ sym (arranged-append (d .count) before vs l₀)
       ∙ ap (λ (x : List ℕ). arranged (d .count) x l₀) (sym (values-on mt block (h .standing) (p .turn)));
 }
@@ -112,6 +124,7 @@ performing-on {g} {d} {l₀} {t} {l = l} mt block h p more = record {
 
 module _ {e r : Engine} {t : Turn} {mt l₀ mt′ l : List ℕ} (budget : ℕ) (d : Draws) (asked : d ≡ shuffleDraws (length l₀) budget)
     (h : Performing (joinedWith e mt) d l₀ t (joinedWith r mt′) l) where
+  -- the words of the generator at the start
   abbrev s : Words
   s = wordsOf (joinedWith e mt)
 
@@ -122,22 +135,27 @@ module _ {e r : Engine} {t : Turn} {mt l₀ mt′ l : List ℕ} (budget : ℕ) (
   pub performed-all : d .count ≤ t .settled → PerformInPromise e mt l₀ budget r mt′ l
   performed-all m =
       let settled = h .standing .settled in
-      at-end (ap (takenBy (d .budget)) (rehearsing-done s (d .first) (d .falls) (d .count) (d .budget) (t .used) (h .standing .rehearsing) (omega arith)))
+      let all-drawn = rehearsing-done s (d .first) (d .falls) (d .count) (d .budget) (t .used) (h .standing .rehearsing) (omega arith) in
+      at-end (ap (takenBy (d .budget)) all-drawn)
 
   -- or the budget is used up.
   pub performed-short : t .settled < d .count → d .budget ≤ t .used → PerformInPromise e mt l₀ budget r mt′ l
   performed-short m out =
       let settled = h .standing .settled in
       let within = rehearsing-within s (d .first) (d .falls) (d .count) (d .budget) (t .used) (h .standing .rehearsing) in
-      let words = ap (takenBy (d .budget)) (rehearsing-out s (d .first) (d .falls) (d .count) (d .budget) (t .used) (h .standing .rehearsing) (omega arith) out) in
+      let drawn = rehearsing-out s (d .first) (d .falls) (d .count) (d .budget) (t .used) (h .standing .rehearsing) (omega arith) out in
+      let words = ap (takenBy (d .budget)) drawn in
       at-end (words ∙ omega arith)
 
 -- ---- where the shuffle is answered, it is what was performed
 
-module _ (s : Words) (l : List ℕ) (budget : ℕ) {places : List ℕ} {n : ℕ} (fits : length l ≤ listLimit) (e : placesDrawn s (length l) budget ≡ all places n) where
+module _ (s : Words) (l : List ℕ) (budget : ℕ) {places : List ℕ} {n : ℕ} (fits : length l ≤ listLimit)
+    (e : placesDrawn s (length l) budget ≡ all places n) where
+  -- The words performed are those used,
   pub all-words : wordsPerformed s (shuffleDraws (length l) budget) ≡ n
   all-words = rw (draws-fit (length l) budget fits) (ap (takenBy budget) e)
 
+  -- and the list is the shuffled one.
   pub all-performed : performed s (shuffleDraws (length l) budget) l ≡ shuffled s l budget
   all-performed =
       let values = drawn-values s (length l) true (length l - 1) budget e in

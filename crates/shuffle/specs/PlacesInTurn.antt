@@ -1,5 +1,5 @@
--- "A shuffle obeys this draw after draw under one budget" (the order, demand 3), place by place: the place i draws below i + 1, from the word just past
--- those of the places above it and with the budget that they left, and draws no place above i.
+-- "A shuffle obeys this draw after draw under one budget" (the order, demand 3), place by place: the place i draws below i + 1, from the
+-- word just past those of the places above it and with the budget that they left, and draws no place above i.
 use mathlib.Core.Path.{_≡_, _∙_, ap}
 use mathlib.Core.Bool.{true}
 use mathlib.Core.List.{List, _∷_, _++_}
@@ -33,6 +33,7 @@ module _ (s : Words) (n budget : ℕ) {places : List ℕ} {used : ℕ} (e : plac
         ap (boundsFrom n true) count ∙ bounds-split n true (n - 1 - i) (i - 1) ∙ rw (bound, next) in
         each-in-turn s (boundsFrom n true (n - 1 - i)) (i + 1) (boundsFrom i true (i - 1)) budget (rw split at e)
 
+    -- and it draws no place above i, where the words have 32 bits
     pub place-at-most : WordSized s → getD places (n - 1 - i) 0 ≤ i
     place-at-most sized =
         let below =

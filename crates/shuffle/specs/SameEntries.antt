@@ -32,11 +32,15 @@ how-many-set x [] i v h = absurd (omega arith)
 how-many-set x (y ∷ l) zero v h = omega arith
 how-many-set x (y ∷ l) (suc i) v h = omega (arith, how-many-set x l i v (omega arith))
 
+-- two entries swapped
 pub how-many-swapped : (x : ℕ) (l : List ℕ) (i j : ℕ) → howMany x (swapped l i j) ≡ howMany x l
 how-many-swapped x l i j =
     elim (decLe (length l) i) [
       | yes h ↦ ap (howMany x) (swap-first-outside l i j h)
-      | no h ↦ elim (decLe (length l) j) [ yes k ↦ ap (howMany x) (swap-second-outside l i j k) | no k ↦ inside (lt-of-not-le h) (lt-of-not-le k) ]
+      | no h ↦ elim (decLe (length l) j) [
+        | yes k ↦ ap (howMany x) (swap-second-outside l i j k)
+        | no k ↦ inside (lt-of-not-le h) (lt-of-not-le k)
+      ]
     ]
   where
     same-there : i < length l → j < length l → getD (set l i (getD l j 0)) j 0 ≡ getD l j 0
@@ -53,12 +57,14 @@ how-many-swapped x l i j =
         let there = ap (one x) (same-there h k) in
         rw (swap-inside l i j h k) (omega arith)
 
+-- the swaps of any places
 pub how-many-arranged : (x i : ℕ) (js l : List ℕ) → howMany x (arranged i js l) ≡ howMany x l
 unfolding arranged
 how-many-arranged x i [] l = refl
 how-many-arranged x i (j ∷ js) l = how-many-arranged x (i - 1) js (swapped l i j) ∙ how-many-swapped x l i j
 
 module _ (s : Words) (l : List ℕ) (budget : ℕ) where
+  -- Every number stands as often in the shuffled list as before,
   pub same-entries : (x : ℕ) → howMany x (shuffled s l budget) ≡ howMany x l
   unfolding shuffled
   same-entries x = go (ltb listLimit (length l)) (placesDrawn s (length l) budget)
@@ -68,6 +74,7 @@ module _ (s : Words) (l : List ℕ) (budget : ℕ) where
       go false (all places n) = how-many-arranged x (length l - 1) places l
       go false (short m) = refl
 
+  -- and the list keeps its length.
   pub same-length : length (shuffled s l budget) ≡ length l
   unfolding shuffled
   same-length = go (ltb listLimit (length l)) (placesDrawn s (length l) budget)

@@ -20,10 +20,11 @@ placesDrawn s n budget = draws s (boundsFrom n true (n - 1)) budget
 unfoldable pub shuffleBy : Words → ℕ → ℕ → Outcome
 shuffleBy s n budget = cond (ltb listLimit n) (refused tooLong) (outcomeOf (λ places. 0) (placesDrawn s n budget))
 
--- The list after it: refused, it keeps its contents.
+-- The list after the places drawn: where they are not all drawn, it keeps its contents.
 abbrev pub listAfter : List ℕ → Drawn → List ℕ
 listAfter l (all places n) = arranged (length l - 1) places l
 listAfter l (short m) = l
 
+-- The list after it: refused, it keeps its contents.
 unfoldable pub shuffled : Words → List ℕ → ℕ → List ℕ
 shuffled s l budget = cond (ltb listLimit (length l)) l (listAfter l (placesDrawn s (length l) budget))

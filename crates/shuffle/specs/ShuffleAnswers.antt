@@ -34,7 +34,8 @@ module _ (s : Words) (n budget : ℕ) where
   -- or its draws are rehearsed,
   module _ {d : Rehearsed} (fits : n ≤ listLimit) (told : d ≡ rehearsedOf (drawsOf s (shuffleDraws n budget))) where
     by-rehearsal : {o : Outcome} {b : Bool} → d .complete ≡ b
-        → ((drawn : Drawn) → d ≡ rehearsedOf drawn → rehearsedOf drawn .complete ≡ b → o ≡ outcomeOf (λ places. 0) drawn) → o ≡ shuffleBy s n budget
+        → ((drawn : Drawn) → d ≡ rehearsedOf drawn → rehearsedOf drawn .complete ≡ b → o ≡ outcomeOf (λ places. 0) drawn)
+        → o ≡ shuffleBy s n budget
     by-rehearsal q said =
         let same : d ≡ rehearsedOf (placesDrawn s n budget) = rw (draws-fit n budget fits) at told in
         said (placesDrawn s n budget) same (sym (ap (λ (x : Rehearsed). x .complete) same) ∙ q) ∙ sym (shuffle-drawn s budget n fits)
@@ -57,7 +58,8 @@ module _ (s : Words) (n budget : ℕ) where
 
 -- ---- and the call that goes by it
 
-module _ {o : Outcome} {a : EngineAnswer} (e : Engine) (mt list : List ℕ) (budget : ℕ) (told : OutcomeInPromise e mt (length list) budget o) where
+module _ {o : Outcome} {a : EngineAnswer} (e : Engine) (mt list : List ℕ) (budget : ℕ)
+    (told : OutcomeInPromise e mt (length list) budget o) where
   -- It is refused, and nothing has changed;
   pub shuffled-refused : (o .refusal ≡ answered → ⊥) → a ≡ answerIn o e → ShuffleInPromise e mt list budget a mt list
   unfolding answerFrom
@@ -68,7 +70,8 @@ module _ {o : Outcome} {a : EngineAnswer} (e : Engine) (mt list : List ℕ) (bud
       (rw (p, told, none, later-none (joinedWith e mt)), sym (refused-list s list budget refusal))
 
   -- or it is performed.
-  pub shuffled-all : {next : Engine} {mt′ list′ : List ℕ} → o .refusal ≡ answered → PerformInPromise e mt list budget next mt′ list′ → a ≡ answerIn o next
+  pub shuffled-all : {next : Engine} {mt′ list′ : List ℕ} → o .refusal ≡ answered → PerformInPromise e mt list budget next mt′ list′
+      → a ≡ answerIn o next
       → ShuffleInPromise e mt list budget a mt′ list′
   unfolding answerFrom
   shuffled-all z p q =

@@ -1,4 +1,5 @@
--- The rows of document 01's bench examples, those marked *, that shuffle a list with given words: one table, for the single table of all of them.
+-- The rows of document 01's bench examples, those marked *, that shuffle a list with given words: one table, for the single table of all of
+-- them.
 use mathlib.Core.Path.{refl}
 use mathlib.Core.List.{List, [], _∷_}
 use Prim.Native.Nat.{ℕ}
@@ -16,6 +17,7 @@ pub record Whole : Type 0 where
   pub outcome : Outcome
   pub list : List ℕ
 
+-- a row: the list, the words, the budget, and what the shuffle tells and leaves
 abbrev pub shuffling : List ℕ → List ℕ → ℕ → Outcome → List ℕ → Row
 shuffling l words budget outcome list = record {
   Kind = Whole;
@@ -23,6 +25,7 @@ shuffling l words budget outcome list = record {
   says = record { outcome = outcome; list = list };
 }
 
+-- the rows of the shuffle
 abbrev pub bench : List Row
 bench =
     -- [10, 20, 30] shuffled with 0, 1, 0xFFFFFFFF gives [30, 20, 10], 3 words used; budget 2 refuses and the list stays
@@ -30,6 +33,7 @@ bench =
     ∷ shuffling (10 ∷ 20 ∷ 30 ∷ []) (0 ∷ 1 ∷ 0xffff_ffff ∷ []) 2 (refused outOfBudget) (10 ∷ 20 ∷ 30 ∷ [])
     ∷ []
 
+-- Each row holds, by computation.
 pub bench-holds : Holds bench
 unfolding shuffleBy shuffled draws firstGood first boundsFrom arranged swapped
 bench-holds = refl & refl & end

@@ -1,4 +1,5 @@
--- "So a larger budget never changes an answer given" (the order, demand 3), of the shuffle: its value, its words used, the next generator and the list.
+-- "So a larger budget never changes an answer given" (the order, demand 3), of the shuffle: its value, its words used, the next generator
+-- and the list.
 use mathlib.Core.Path.{_≡_, refl, ap}
 use mathlib.Core.Bool.{Bool, true, false, cond}
 use mathlib.Core.List.{List}
@@ -20,10 +21,12 @@ use Rattle.shuffle.specs.Shuffle.{placesDrawn, shuffleBy, listAfter, shu
 -- The shuffle of n entries is a call that works its value out of draws.
 pub shuffle-budgeted : (n : ℕ) → Budgeted (λ s b. shuffleBy s n b)
 unfolding shuffleBy
-shuffle-budgeted n = checked-budgeted (ltb listLimit n) tooLong (λ e. omega arith) (draws-budgeted (λ places. 0) (boundsFrom n true (n - 1)))
+shuffle-budgeted n =
+    checked-budgeted (ltb listLimit n) tooLong (λ e. omega arith) (draws-budgeted (λ places. 0) (boundsFrom n true (n - 1)))
 
 -- The list too
-pub list-larger : (s : Words) (l : List ℕ) (b b′ : ℕ) → b ≤ b′ → shuffleBy s (length l) b .refusal ≡ answered → shuffled s l b′ ≡ shuffled s l b
+pub list-larger : (s : Words) (l : List ℕ) (b b′ : ℕ) → b ≤ b′ → shuffleBy s (length l) b .refusal ≡ answered
+    → shuffled s l b′ ≡ shuffled s l b
 unfolding shuffleBy shuffled
 list-larger s l b b′ h = go (ltb listLimit (length l))
   where
@@ -34,6 +37,7 @@ list-larger s l b b′ h = go (ltb listLimit (length l))
 
 -- and so the whole answer.
 module _ (l : List ℕ) (b b′ : ℕ) (h : b ≤ b′) where
+  -- Where it is answered with the smaller budget, the larger one gives that answer and that list.
   pub shuffle-larger : (g : Random) → shuffleBy (wordsOf g) (length l) b .refusal ≡ answered
       → (answerFrom g (shuffleBy (wordsOf g) (length l) b′) ≡ answerFrom g (shuffleBy (wordsOf g) (length l) b))
       × (shuffled (wordsOf g) l b′ ≡ shuffled (wordsOf g) l b)

@@ -16,20 +16,22 @@ use Rattle.shuffle.specs.SwapLaws.{arranged-none}
 use Rattle.shuffle.specs.Shuffle.{placesDrawn, shuffleBy, listAfter, shuffled}
 
 module _ (s : Words) (budget : ℕ) where
-  -- a list above the limit
+  -- A list above the limit is refused,
   pub shuffle-long : (n : ℕ) → listLimit < n → shuffleBy s n budget ≡ refused tooLong
   unfolding shuffleBy
   shuffle-long n h = rw (lt-ltb listLimit n h)
 
+  -- and stays as it is.
   pub list-long : (l : List ℕ) → listLimit < length l → shuffled s l budget ≡ l
   unfolding shuffled
   list-long l h = rw (lt-ltb listLimit (length l) h)
 
-  -- any other
+  -- Any other comes to what its draws come to,
   pub shuffle-drawn : (n : ℕ) → n ≤ listLimit → shuffleBy s n budget ≡ outcomeOf (λ places. 0) (placesDrawn s n budget)
   unfolding shuffleBy
   shuffle-drawn n h = rw (le-ltb listLimit n h)
 
+  -- and is arranged by the places drawn.
   pub list-drawn : (l : List ℕ) → length l ≤ listLimit → shuffled s l budget ≡ listAfter l (placesDrawn s (length l) budget)
   unfolding shuffled
   list-drawn l h = rw (le-ltb listLimit (length l) h)

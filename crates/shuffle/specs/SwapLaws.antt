@@ -22,6 +22,7 @@ module _ (l : List ℕ) (i j : ℕ) where
   unfolding swapped
   swap-first-outside h = rw (le-ltb i (length l) h)
 
+  -- The same of the second place.
   pub swap-second-outside : length l ≤ j → swapped l i j ≡ l
   unfolding swapped
   swap-second-outside h = go (ltb i (length l))
@@ -30,6 +31,7 @@ module _ (l : List ℕ) (i j : ℕ) where
       go true = rw (le-ltb j (length l) h)
       go false = refl
 
+  -- A swap keeps the length.
   pub length-swapped : length (swapped l i j) ≡ length l
   unfolding swapped
   length-swapped = go (ltb i (length l) && ltb j (length l))
@@ -38,10 +40,12 @@ module _ (l : List ℕ) (i j : ℕ) where
       go true = simp length-set
       go false = refl
 
+-- With no place to swap for the list stays.
 pub arranged-none : (i : ℕ) (l : List ℕ) → arranged i [] l ≡ l
 unfolding arranged
 arranged-none i l = refl
 
+-- The swaps of any places keep the length.
 pub length-arranged : (i : ℕ) (js l : List ℕ) → length (arranged i js l) ≡ length l
 unfolding arranged
 length-arranged i [] l = refl
@@ -71,11 +75,14 @@ pub record Arranging (last : ℕ) (places : List ℕ) (i at : ℕ) (l₀ l : Lis
   pub here : at ≡ last - i
   pub list : l ≡ arranged last (take i places) l₀
 
+-- Before the first swap the list is as it came.
 pub arranging-start : (last : ℕ) (places l : List ℕ) → Arranging last places 0 last l l
 arranging-start last places l = record { within = omega arith; here = omega arith; list = sym (arranged-none last l) }
 
 module _ {last : ℕ} {places : List ℕ} {i at : ℕ} {l₀ l : List ℕ} (h : Arranging last places i at l₀ l) where
-  pub arranging-on : {l′ : List ℕ} {at′ : ℕ} → i < length places → l′ ≡ swapped l at (getD places i 0) → at′ ≡ at - 1 → Arranging last places (i + 1) at′ l₀ l′
+  -- One swap more goes on to the next place.
+  pub arranging-on : {l′ : List ℕ} {at′ : ℕ} → i < length places → l′ ≡ swapped l at (getD places i 0) → at′ ≡ at - 1
+      → Arranging last places (i + 1) at′ l₀ l′
   arranging-on more e q =
       let here = h .here in
       let long : length (take i places) ≡ i = length-take-le i places (h .within) in
@@ -85,8 +92,10 @@ module _ {last : ℕ} {places : List ℕ} {i at : ℕ} {l₀ l : List ℕ} (h : 
         list = e ∙ rw (h .list, here, add-one, take-suc places i 0 more, arranged-more, long);
       }
 
+  -- The list keeps its length.
   pub arranging-length : length l ≡ length l₀
   arranging-length = ap length (h .list) ∙ length-arranged last (take i places) l₀
 
+  -- At the end every place is swapped for.
   pub arranging-done : length places ≤ i → l ≡ arranged last places l₀
   arranging-done end = h .list ∙ ap (λ (x : List ℕ). arranged last x l₀) (take-all i places end)

@@ -45,7 +45,8 @@ pub(crate) fn draws_of(n: usize, budget: u32) -> Draws
 // A turn of the draws, with the swaps of those that it settles.
 fn swap_turn(d: Draws, t: Turn, mt: &mut [u32; 624], list: &mut [u32], block: &mut [u32]) -> Turn
     requires { ⌜ t .settled < d .count ⌝ }
-    ensures { λ r. ⌜ TurnSwapped d t (now (mt .entry)) (now (list .entry)) (now (block .entry)) r (now (mt .exit)) (now (list .exit)) (now (block .exit)) ⌝ }
+    ensures { λ r. ⌜ TurnSwapped d t (now (mt .entry)) (now (list .entry)) (now (block .entry)) r
+        (now (mt .exit)) (now (list .exit)) (now (block .exit)) ⌝ }
 {
     let last = (d.count - t.settled) as usize;
     let next = rehearsal::take_turn(d, t, mt, block);

@@ -1,4 +1,4 @@
--- `next_bound` meets its contract.
+-- `next_bound` meets its contract: the bounds fall, from 0 to 0 or by 1, or they stay.
 use native.Mathlib.Omega.{arith}
 use borrow.Author.Needs.{needs}
 use Rattle.rehearsal.proofs.settling.next_bound.Statement.{statement}

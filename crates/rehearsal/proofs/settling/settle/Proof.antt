@@ -5,7 +5,8 @@ use mathlib.Core.Logic.{⊎-elim}
 use Prim.Native.Nat.{_-_, _<_, _≤_}
 use native.Mathlib.Omega.{arith}
 use lib.ListN.{length}
-use Rattle.rehearsal.specs.Settling.{Settling, settling-start, settling-few, settling-length, settling-word, settling-good, settling-bad}
+use Rattle.rehearsal.specs.Settling.{Settling, settling-start, settling-few, settling-length}
+use Rattle.rehearsal.specs.Settling.{settling-word, settling-good, settling-bad}
 use Rattle.rehearsal.proofs.settling.settle.Statement.{statement}
 use Rattle.rehearsal.proofs.settling.settle.Tie as tie
 
@@ -64,10 +65,12 @@ loop-again : tie.Need-loop-again Inv-loop μ-loop
 loop-again c =
     let l = c .before .before .before in
     let h = l .before .loop .inv in
-    let more : l .before .loop .i < length (l .before .before .before .args .list .now) = omega (arith, settling-length h, l .loop-test .taken) in
+    let more : l .before .loop .i < length (l .before .before .before .args .list .now) =
+    omega (arith, settling-length h, l .loop-test .taken) in
+    let word = settling-word h more in
     let good = c .before .is-good .ensures in
-    ⊎-elim (λ w. rw (w .3, w .4, w .5) (settling-good h more (settling-word h more) (sym good ∙ w .0 .taken) (w .1 .ensures) (w .2 .ensures)))
-    (λ w. rw (w .1, w .2, w .3) (settling-bad h more (settling-word h more) (sym good ∙ w .0 .left)))
+    ⊎-elim (λ w. rw (w .3, w .4, w .5) (settling-good h more word (sym good ∙ w .0 .taken) (w .1 .ensures) (w .2 .ensures)))
+    (λ w. rw (w .1, w .2, w .3) (settling-bad h more word (sym good ∙ w .0 .left)))
     (c .if1 .came)
 
 same-length : tie.Need-same-length Inv-loop μ-loop

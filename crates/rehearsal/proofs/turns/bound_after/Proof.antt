@@ -1,4 +1,4 @@
--- `bound_after` meets its contract.
+-- `bound_after` meets its contract: the bounds fall by the draws settled, or they stay.
 use borrow.Author.Needs.{needs}
 use Rattle.rehearsal.proofs.turns.bound_after.Statement.{statement}
 use Rattle.rehearsal.proofs.turns.bound_after.Tie as tie

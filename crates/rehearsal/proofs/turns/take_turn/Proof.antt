@@ -32,13 +32,15 @@ cast-settled : tie.Need-cast-settled
 cast-settled c =
     let s = c .before .before .before .before .before in
     let w = s .before .before .before .before .before in
-    omega (arith, few-drawn (w .words-taken .result) (w .before .before .args .block .now) (s .settled-words .ensures), w .words-taken .ensures .1)
+    let few = few-drawn (w .words-taken .result) (w .before .before .args .block .now) (s .settled-words .ensures) in
+    omega (arith, few, w .words-taken .ensures .1)
 
 add-settled : tie.Need-add-settled
 add-settled c =
     let s = c .before .before .before .before .before .before in
     let w = s .before .before .before .before .before in
-    omega (arith, few-drawn (w .words-taken .result) (w .before .before .args .block .now) (s .settled-words .ensures), w .words-taken .ensures .1)
+    let few = few-drawn (w .words-taken .result) (w .before .before .args .block .now) (s .settled-words .ensures) in
+    omega (arith, few, w .words-taken .ensures .1)
 
 same-length : tie.Need-same-length
 same-length c = search needs

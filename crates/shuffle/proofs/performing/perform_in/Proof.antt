@@ -6,12 +6,14 @@ use native.Mathlib.Omega.{arith}
 use lib.ListN.{length}
 use Rattle.random.specs.Lent.{joinedWith}
 use Rattle.rehearsal.specs.TurnLaws.{turn-takes}
-use Rattle.shuffle.specs.PerformingLaws.{Performing, performing-start, performing-length, performing-on, performed-all, performed-short}
+use Rattle.shuffle.specs.PerformingLaws.{Performing, performing-start, performing-length, performing-on}
+use Rattle.shuffle.specs.PerformingLaws.{performed-all, performed-short}
 use Rattle.shuffle.proofs.performing.perform_in.Statement.{statement}
 use Rattle.shuffle.proofs.performing.perform_in.Tie as tie
 
 abbrev Inv-loop : tie.InvT-loop
-Inv-loop mt₀ list₀ budget d block₀ t₀ mt list block t = Performing (joinedWith (t₀ .next) mt₀) d list₀ t (joinedWith (t .next) mt) list × (length block ≡ 256)
+Inv-loop mt₀ list₀ budget d block₀ t₀ mt list block t =
+    Performing (joinedWith (t₀ .next) mt₀) d list₀ t (joinedWith (t .next) mt) list × (length block ≡ 256)
 
 abbrev μ-loop : tie.MeasureT-loop
 μ-loop mt₀ list₀ budget d block₀ t₀ mt list block t = d .budget - t .used
@@ -28,7 +30,8 @@ same-length c = performing-length (c .before .before .before .before .before .be
 returns : tie.Need-returns Inv-loop μ-loop
 returns c =
     let l = c .before .before .before .before .before .before .before in
-    performed-short _ _ (l .before .draws-of .ensures) (l .loop .inv .0) (c .before .before .before .before .if1 .taken) (c .before .if2 .taken)
+    let more = c .before .before .before .before .if1 .taken in
+    performed-short _ _ (l .before .draws-of .ensures) (l .loop .inv .0) more (c .before .if2 .taken)
 
 slice-aggregate-swap-turn : tie.Need-slice-aggregate-swap-turn Inv-loop μ-loop
 slice-aggregate-swap-turn c = sym (c .before .before .before .before .before .before .before .before .before .loop .inv .1)
@@ -48,7 +51,8 @@ loop-again : tie.Need-loop-again Inv-loop μ-loop
 loop-again c =
     let e = c .before .before .before .before .before .before .before in
     let l = e .before .before .before .before .before .before in
-    (performing-on _ _ (l .loop .inv .0) (c .before .before .before .swap-turn .ensures) (e .before .before .before .if1 .taken), search needs)
+    let turn = c .before .before .before .swap-turn .ensures in
+    (performing-on _ _ (l .loop .inv .0) turn (e .before .before .before .if1 .taken), search needs)
 
 same-length-2 : tie.Need-same-length-2 Inv-loop μ-loop
 same-length-2 c = performing-length (c .before .before .before .before .loop .inv .0)

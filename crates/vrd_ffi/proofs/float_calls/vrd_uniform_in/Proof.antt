@@ -34,7 +34,8 @@ returns-3 c =
     let taken = c .before .before .before .before .before in
     let known = taken .before .before in
     let none = sym (taken .before .interval-refusal .ensures) ∙ taken .if2 .left in
-    rw (c .uniform-number .ensures, c .before .uniform-of .ensures) (spread-moved _ _ (known .if1 .left) _ none (c .before .before .move-u64 .ensures))
+    rw (c .uniform-number .ensures, c .before .uniform-of .ensures)
+    (spread-moved _ _ (known .if1 .left) _ none (c .before .before .move-u64 .ensures))
 
 pub vrd-uniform-in-spec : {M : Type 1} → statement M
 vrd-uniform-in-spec =
