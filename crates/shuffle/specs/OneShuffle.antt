@@ -57,7 +57,7 @@ module _ (s : Words) (n budget : ℕ) where
   refusal-of : {o : Outcome} → Outcomes s n budget o → shuffleBy s n budget .refusal ≡ o .refusal
   refusal-of d = ap (λ (o : Outcome). o .refusal) (shuffle-only d)
 
-  -- "a list above 65,536 entries"
+  -- TOO LONG: a list above the limit
   pub too-long-exactly-if : (shuffleBy s n budget .refusal ≡ tooLong) ↔ (listLimit < n)
   too-long-exactly-if = (only-if shuffle-is, λ h. refusal-of (too-long h))
     where

@@ -16,7 +16,7 @@ use Rattle.shuffle.specs.Swap.{arranged}
 abbrev pub placesDrawn : Words → ℕ → ℕ → Drawn
 placesDrawn s n budget = draws s (boundsFrom n true (n - 1)) budget
 
--- What it tells, of n entries: "a list above 65,536 entries" is refused first; an answer's value is 0.
+-- What it tells, of n entries: a list above the limit is refused first; an answer's value is 0.
 unfoldable pub shuffleBy : Words → ℕ → ℕ → Outcome
 shuffleBy s n budget = cond (ltb listLimit n) (refused tooLong) (outcomeOf (λ places. 0) (placesDrawn s n budget))
 

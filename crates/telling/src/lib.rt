@@ -2,6 +2,7 @@
 // ends.
 use libc::STDOUT_FILENO;
 
+// A text as it is.
 pub fn text(t: &[u8]) {
     io::write_all(STDOUT_FILENO, t);
 }
