@@ -1,8 +1,8 @@
--- The least remainder of a good word, 2^32 mod r, as the code works it out; and the word whose remainder is at least r, which is good
+-- The least remainder of a good word, 2^32 mod r, as the code works it out; and the word whose remainder is above r, which is good
 -- without it.
 use mathlib.Core.Path.{_≡_, _∙_}
 use mathlib.Core.Bool.{true, false, cond}
-use Prim.Native.Nat.{ℕ, _-_, _*_, _%_, _^_, _<_, _≤_}
+use Prim.Native.Nat.{ℕ, zero, suc, _-_, _*_, _%_, _^_, _<_, _≤_}
 use native.Mathlib.Omega.{arith}
 use native.Mathlib.Nat.{mod-lt, mod-eq-sub-mod}
 use lib.Dec.{leb, eqb}
@@ -30,12 +30,14 @@ threshold-of-negative r h fits = threshold-positive r h ∙ mod-eq-sub-mod fits
 pub none-for-zero : (r w : ℕ) → r ≡ 0 → good r w ≡ false
 none-for-zero r w z = rw z (fails-bad 0 w (fails-for-zero w))
 
--- How the code tells whether a word w is good, by its product p with r.
-module _ (r w p : ℕ) (product : p ≡ w * r) (pos : 0 < r) where
-  -- A remainder of at least r is enough, since 2^32 mod r is below r: it need not be worked out.
-  pub good-from-r : r ≤ p % 2 ^ 32 → good r w ≡ true
-  good-from-r h = passes-good r w (rw (← product) (omega (arith, mod-lt (2 ^ 32) pos)))
+-- How the code tells whether a word w is good, by its product p with r: a remainder above r is enough, since 2^32 mod r is below r,
+-- and where r is 0 no remainder is above it;
+pub good-above : (r w p : ℕ) → p ≡ w * r → r < p % 2 ^ 32 → good r w ≡ true
+good-above zero w p product h = absurd (omega (arith, product))
+good-above (suc n) w p product h =
+    let small : 2 ^ 32 % suc n < suc n = mod-lt (2 ^ 32) (omega arith) in
+    passes-good (suc n) w (rw (← product) (omega arith))
 
-  -- Any other is compared with it.
-  pub good-by-threshold : good r w ≡ leb (threshold r) (p % 2 ^ 32)
-  good-by-threshold = rw (← product, threshold-positive r pos)
+-- any other is compared with 2^32 mod r.
+pub good-by-threshold : (r w p : ℕ) → p ≡ w * r → 0 < r → good r w ≡ leb (threshold r) (p % 2 ^ 32)
+good-by-threshold r w p product pos = rw (← product, threshold-positive r pos)

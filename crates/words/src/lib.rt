@@ -26,20 +26,20 @@ pub fn threshold(r: u32) -> u32
     (4294967295 - r + 1) % r
 }
 
-// Whether a word is good for r: 2^32 mod r is worked out only where the remainder is below r. No word is good for 0.
+// Whether a word is good for r. A remainder above r is enough; 2^32 mod r is worked out for the others alone. No word is good for 0.
 pub fn is_good(w: u32, r: u32) -> bool
     ensures { λ b. ⌜ IsGoodPromise w r b ⌝ }
 {
+    let bound = r as u64;
+    let low = product(w, r) % 4294967296;
+    if low > bound {
+        return true;
+    }
     if r == 0 {
         return false;
     }
-    let bound = r as u64;
-    let low = product(w, r) % 4294967296;
-    if low < bound {
-        let least = threshold(r) as u64;
-        return low >= least;
-    }
-    true
+    let least = threshold(r) as u64;
+    low >= least
 }
 
 // The quotient that a good word draws.
