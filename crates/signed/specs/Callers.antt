@@ -1,16 +1,14 @@
 -- What a caller cites that has signed numbers of 32 bits: its facts speak of x as `read x`, what the machine reads back of x's bits,
 -- and these laws tell the same of x itself. `f` and `g` are `c .fits .min` and `c .fits .max`.
-use mathlib.Core.Path.{_≡_, _∙_}
+use mathlib.Core.Path.{_≡_}
 use mathlib.Core.Bool.{Bool}
-use Prim.Native.Nat.{ℕ, _^_, _≤_, _<_}
-use lib.IntN.{ℤ, pos, _+ℤ_}
+use Prim.Native.Nat.{ℕ, _^_, _<_}
+use lib.IntN.{ℤ}
 use lib.Signed.{mag, ltZ}
 use mir.Syntax.{Width, w32}
 use mir.Val.{hbits, SFits, ofZ, toZ}
 use mir.ValLaws.{toZ-ofZ}
-use Rattle.signed.specs.Signed.{wrappedSum, gap}
-use Rattle.signed.specs.SignedLaws.{sum-exact}
-use Rattle.signed.specs.GapLaws.{gap-fits}
+use Rattle.signed.specs.Signed.{gap}
 
 -- what the machine reads back of the 32 bits of z
 abbrev pub read : ℤ → ℤ
@@ -31,10 +29,3 @@ module _ {min max : ℤ} (f : SFits w32 min) (g : SFits w32 max) where
   -- the answer of `span_of`
   pub span-read : {s : ℕ} → s ≡ gap (read min) (read max) → s ≡ gap min max
   span-read h = rw (arg-read g, arg-read f) at h
-
-  -- the answer of `wrapping_add_signed`, where the word that is added is at most the span
-  pub sum-read : {s v : ℕ} {r : ℤ}
-      → s ≡ gap (read min) (read max) → v ≤ s → mag r < 2 ^ 31 → r ≡ wrappedSum 32 (read min) v → read r ≡ min +ℤ pos v
-  sum-read {s} {v} {r} e q small h =
-      let fits : SFits w32 (min +ℤ pos v) = gap-fits f g (rw (span-read e) at q) in
-      result-read w32 r small ∙ h ∙ rw (arg-read f) (sum-exact w32 min v fits)

@@ -5,7 +5,7 @@ use Prim.Native.Nat.{ℕ, zero, suc, _+_, _-_, _^_, _≤_, _<_}
 use native.Mathlib.Omega.{arith}
 use borrow.Author.Tests.{le-ltb, ltb-true, ltb-false}
 use lib.Dec.{T, ltb, leb→le, le→leb}
-use lib.IntN.{ℤ, pos, negsuc, subℕ, _+ℤ_, _-ℤ_, +ℤ-comm, +ℤ-idr, +ℤ-invr, -ℤ-+ℤ-cancel}
+use lib.IntN.{ℤ, pos, negsuc, subℕ, _+ℤ_, _-ℤ_, +ℤ-comm, +ℤ-idr, -ℤ-+ℤ-cancel}
 use lib.Signed.{ltZ, leZ, _≤ℤ_}
 use mir.Syntax.{Width, w32}
 use mir.Val.{SFits}
@@ -61,15 +61,6 @@ gap-below min max h = gap-apart min max ∙ go min max h
     go (negsuc b) (pos a) h = absurd (true≢false (sym h))
     go (negsuc b) (negsuc a) h = let k = ltb-true b a h in omega arith
     go (pos b) (negsuc a) h = refl
-
--- ---- it is nothing where the two are the same, and there alone
-
-pub gap-same : (x : ℤ) → gap x x ≡ 0
-unfolding gap
-gap-same x = ap orZero (+ℤ-invr x)
-
-pub gap-none : (min max : ℤ) → ltZ max min ≡ false → gap min max ≡ 0 → min ≡ max
-gap-none min max h z = sym (+ℤ-idr min) ∙ ap (λ (n : ℕ). min +ℤ pos n) (sym z) ∙ gap-top min max h
 
 -- ---- what is added within the gap stays between the two
 

@@ -19,9 +19,6 @@ pub word-small : (k : ℕ) (z : ℤ) → wordOf k z < 2 ^ k
 word-small k (pos n) = mod-lt n (pow-pos k)
 word-small k (negsuc n) = omega (arith, pow-pos k)
 
-pub word-itself : (k n : ℕ) → n < 2 ^ k → wordOf k (pos n) ≡ n
-word-itself k n h = mod-eq-of-lt h
-
 pub word-around : (k : ℕ) (z : ℤ) → wordOf k (z +ℤ pos (2 ^ k)) ≡ wordOf k z
 word-around k (pos n) = add-mod-right n (2 ^ k)
 word-around k (negsuc n) = go (ltb (2 ^ k) (suc n)) refl
@@ -66,11 +63,7 @@ pub word-back : (w : Width) (n : ℕ) → n < 2 ^ bits w → wordOf (bits w) (si
 word-back w n h =
     rw (word-is w _ (signed-fits w n h), ← signed-is w n h) (ofZ-toZ w n (record { fits = h }))
 
--- ---- a sum: a number of the type, and exact where the sum of the integers is one
-
-pub sum-fits : (w : Width) (x : ℤ) (n : ℕ) → SFits w (wrappedSum (bits w) x n)
-unfolding wrappedSum
-sum-fits w x n = signed-fits w (wordOf (bits w) (x +ℤ pos n)) (word-small (bits w) (x +ℤ pos n))
+-- ---- a sum: exact where the sum of the integers is a number of the type
 
 pub sum-exact : (w : Width) (x : ℤ) (n : ℕ) → SFits w (x +ℤ pos n) → wrappedSum (bits w) x n ≡ x +ℤ pos n
 unfolding wrappedSum

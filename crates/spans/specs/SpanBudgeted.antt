@@ -43,10 +43,6 @@ uint-budgeted min max = checked-budgeted (ltb max min) order (λ e. omega arith)
 abbrev pub spanOf : ℤ → ℤ → Words → ℕ → Outcome
 spanOf min max s b = cond (ltZ max min) (refused order) (spanBy s (gap min max) b)
 
-pub int-counts : (s : Words) (min max : ℤ) (b : ℕ) → intBy s min max b ≡ countedFrom min (spanOf min max s b)
-unfolding intBy
-int-counts s min max b = refl
-
 pub span-of-budgeted : (min max : ℤ) → Budgeted (spanOf min max)
 span-of-budgeted min max = checked-budgeted (ltZ max min) order (λ e. omega arith) (span-budgeted (gap min max))
 

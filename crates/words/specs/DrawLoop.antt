@@ -12,7 +12,6 @@ use Rattle.words.specs.GoodWord.{Fails, good-passes, bad-fails, fails-fo
 use Rattle.words.specs.GoodWord.{none-good, look, first-found, none-found}
 use Rattle.words.specs.OneOutcome.{out-of-budget, bounded-only}
 use Rattle.words.specs.AnswerIsFirst.{first-is-answer}
-use Rattle.words.specs.BelowItsBound.{WordSized, first-below}
 
 -- What is told of a draw: whether a word settled it,
 abbrev pub foundOf : Found → Bool
@@ -100,25 +99,7 @@ module _ {s : Words} {r budget : ℕ} {b : Bool} {v n : ℕ} (t : Told s r budge
       go (some-good k f) = absurd (true≢false (sym (t .found ∙ ap foundOf (first-found s r budget f)) ∙ q))
       go (none-good f) = f
 
-  -- a draw takes no more words than its budget,
-  pub told-within : n ≤ budget
-  told-within = go (look s r budget)
-    where
-      at-most : (z : Bool) → cond z 0 budget ≤ budget
-      at-most true = omega arith
-      at-most false = omega arith
-
-      go : Looked s r budget → n ≤ budget
-      go (some-good k f) = omega (arith, f .among, t .taken ∙ ap (takenOf r budget) (first-found s r budget f))
-      go (none-good f) = omega (arith, t .taken ∙ ap (takenOf r budget) (none-found s r budget f), at-most (eqb r 0))
-
-  -- one that was settled is below r, where the words have 32 bits,
-  pub told-below : WordSized s → b ≡ true → v < r
-  told-below sized q =
-      let (k, f, e, m) = told-first q in
-      rw e (first-below sized f)
-
-  -- and it is the call's answer, as one that was not is its refusal.
+  -- A draw that was settled is the call's answer, as one that was not is its refusal.
   pub told-answers : b ≡ true → boundedBy s r budget ≡ gives v n
   told-answers q =
       let (k, f, e, m) = told-first q in
