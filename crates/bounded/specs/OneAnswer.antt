@@ -1,6 +1,6 @@
 -- What every answer's promise fixes, whatever the outcome: the next generator is the old one after the words used, and two answers that
 -- meet one promise are the same, over a lent table the tables too.
-use mathlib.Core.Path.{_≡_, sym, _∙_, ap}
+use mathlib.Core.Path.{_≡_, ap}
 use mathlib.Core.List.{List}
 use Prim.Native.Nat.{ℕ}
 use Rattle.words.specs.declared.outcome.Outcome.{Outcome}
@@ -26,9 +26,6 @@ module _ {a : Answer} (g : Random) (o : Outcome) (p : a ≡ answerFrom g o) wher
   pub refused-unmoved : o .used ≡ 0 → a .next ≡ g
   unfolding answerFrom
   refused-unmoved none = rw (p, none, later-none g)
-
-  pub one-answer : {b : Answer} → b ≡ answerFrom g o → a ≡ b
-  one-answer q = p ∙ sym q
 
 -- ---- over a lent table
 

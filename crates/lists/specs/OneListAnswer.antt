@@ -1,6 +1,6 @@
 -- What the promises of `choose` and `rand_slice` fix, whatever the outcome: the next generator is the old one after the words used, a
 -- refusal leaves it, and two answers that meet one promise are the same, over a lent table the tables too.
-use mathlib.Core.Path.{_≡_, sym, _∙_, ap}
+use mathlib.Core.Path.{_≡_, ap}
 use mathlib.Core.List.{List}
 use Prim.Native.Nat.{ℕ}
 use Rattle.random.specs.declared.backend.Random.{Random}
@@ -31,9 +31,6 @@ module _ {a : Chosen} (g : Random) (c : Choice) (p : a ≡ choiceFrom g c) where
   unfolding choiceFrom
   choice-unmoved none = rw (p, none, later-none g)
 
-  pub one-choice : {b : Chosen} → b ≡ choiceFrom g c → a ≡ b
-  one-choice q = p ∙ sym q
-
 -- ---- over a lent table
 
 pub choice-apart : {a b : EngineChosen} {m m′ : List ℕ} → joinedChoice a m ≡ joinedChoice b m′ → (a ≡ b) × (m ≡ m′)
@@ -57,9 +54,6 @@ module _ {a : SliceStart} (g : Random) (s : SliceOutcome) (p : a ≡ startFrom g
   pub start-unmoved : s .used ≡ 0 → a .next ≡ g
   unfolding startFrom
   start-unmoved none = rw (p, none, later-none g)
-
-  pub one-start : {b : SliceStart} → b ≡ startFrom g s → a ≡ b
-  one-start q = p ∙ sym q
 
 -- ---- over a lent table
 

@@ -1,6 +1,6 @@
 -- What the promise of `int` and `range` fixes, whatever the outcome, as of every answer: the next generator is the old one after the words
 -- used, and two answers that meet one promise are the same, over a lent table the tables too.
-use mathlib.Core.Path.{_≡_, sym, _∙_, ap}
+use mathlib.Core.Path.{_≡_, ap}
 use mathlib.Core.List.{List}
 use Prim.Native.Nat.{ℕ}
 use Rattle.random.specs.declared.backend.Random.{Random}
@@ -25,9 +25,6 @@ module _ {a : IntAnswer} (g : Random) (o : IntOutcome) (p : a ≡ intAnswerFrom 
   pub int-refused-unmoved : o .used ≡ 0 → a .next ≡ g
   unfolding intAnswerFrom
   int-refused-unmoved none = rw (p, none, later-none g)
-
-  pub one-int-answer : {b : IntAnswer} → b ≡ intAnswerFrom g o → a ≡ b
-  one-int-answer q = p ∙ sym q
 
 -- ---- over a lent table
 

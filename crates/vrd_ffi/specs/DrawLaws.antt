@@ -2,7 +2,7 @@
 use Prim.Native.Nat.{ℕ, _+_, _-_, _%_, _^_, _≤_, _<_}
 use native.Mathlib.Nat.{zero-add, mod-eq-of-lt}
 use native.Mathlib.Omega.{arith}
-use borrow.Author.Tests.{eqb-true, eqb-false, eq-eqb, ne-eqb}
+use borrow.Author.Tests.{eqb-true, eqb-false}
 use lib.Dec.{eqb}
 use lib.IntN.{ℤ, pos, _+ℤ_}
 use lib.ListN.{length}
@@ -20,8 +20,8 @@ use Rattle.signed.specs.Signed.{wrappedSum, gap}
 use Rattle.signed.specs.SignedLaws.{sum-exact}
 use Rattle.random.specs.Generator.{later, wordsOf}
 use Rattle.random.specs.GeneratorLaws.{later-none}
-use Rattle.random.specs.declared.backend.Random.{Random}
 use Rattle.bounded.specs.Answers as library
+use Rattle.bounded.specs.Budgeted.{Budgeted, Refused}
 use Rattle.words.specs.OutcomeLaws.{raised-answered, raised-refused}
 use Rattle.words.specs.Outcomes.{raised, workedOn}
 use Rattle.bounded.specs.RangeLaws.{range-drawn}
@@ -36,7 +36,7 @@ use Rattle.lists.specs.Choosing as choosing
 use Rattle.lists.specs.Limit.{listLimit}
 use Rattle.lists.specs.Slicing as slicing
 use Rattle.vrd_ffi.specs.declared.answers.Number.{Number}
-use Rattle.vrd_ffi.specs.Answers.{Reply, told, formed, atBoundary}
+use Rattle.vrd_ffi.specs.Answers.{told, formed, atBoundary}
 use Rattle.vrd_ffi.specs.AnswersLaws.{same-reply, told-formed, refused-keeps}
 use Rattle.vrd_ffi.specs.Choosing.{entryOf}
 use Rattle.vrd_ffi.specs.Counting.{counted, countedModulo}
@@ -54,15 +54,16 @@ raised-zero o = go (eqb (o .refusal) 0) refl
         raised-answered 0 o z ∙ rw zero-add (ap (λ (n : ℕ). record { refusal = n; value = o .value; used = o .used }) (sym z))
     go false e = raised-refused 0 o (eqb-false (o .refusal) 0 e)
 
--- a draw that is refused has used no word, so that it leaves the very lists that came
-pub refused-draw-keeps : (s t : List ℕ) (by : Words → Outcome) → (by (wordsOf (generatorIn s t)) .refusal ≡ refusal.answered → ⊥)
-    → by (wordsOf (generatorIn s t)) .used ≡ 0
-    → (atBoundary s t (number 0 0 refusal.kind) (drawnBy by) .state ≡ s)
-    × (atBoundary s t (number 0 0 refusal.kind) (drawnBy by) .table ≡ t)
+-- "a refusal leaves everything unchanged": of every budgeted call, a refused draw leaves the very lists that came
+pub refused-draw-keeps : {call : Words → ℕ → Outcome} → Budgeted call → (s t : List ℕ) (budget : ℕ)
+    → Refused (call (wordsOf (generatorIn s t)) budget)
+    → (atBoundary s t (number 0 0 refusal.kind) (drawnBy (λ w. call w budget)) .state ≡ s)
+    × (atBoundary s t (number 0 0 refusal.kind) (drawnBy (λ w. call w budget)) .table ≡ t)
 unfolding library.answerFrom
-refused-draw-keeps s t by h unused =
+refused-draw-keeps {call} d s t budget h =
     let g = generatorIn s t in
-    refused-keeps s t (number 0 0 refusal.kind) (drawnBy by) h (ap (λ (n : ℕ). later n g) unused ∙ later-none g)
+    let unmoved = ap (λ (n : ℕ). later n g) (d .unused (wordsOf g) budget h) ∙ later-none g in
+    refused-keeps s t (number 0 0 refusal.kind) (drawnBy (λ w. call w budget)) h unmoved
 
 -- the draw that every call here stands on
 abbrev one : (r budget least : ℕ) → Words → Outcome
