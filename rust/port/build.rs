@@ -2,4 +2,5 @@
 
 fn main() {
     archive::link("bench_ffi");
+    archive::link("bench_values");
 }
