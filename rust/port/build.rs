@@ -1,4 +1,4 @@
-//! Has the exports of the generators and of the benchmark's loops proved, compiled and linked.
+//! Has the exports of the generators and of the loops, over a lent generator and by value, proved, compiled and linked.
 
 fn main() {
     archive::link("bench_ffi");
