@@ -1,4 +1,4 @@
--- What the loops give: words in a row of each generator, XORed; and words and draws in a row of a lent generator.
+-- What the loops give: words in a row of each generator, XORed; and draws in a row of a lent generator.
 pub mod Steps
 pub mod Loops
 pub mod Rows

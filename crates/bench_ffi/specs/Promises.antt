@@ -14,11 +14,9 @@ use Rattle.xoshiro.specs.declared.Drawn64 as drawn-xoshiro
 use Rattle.xoshiro.specs.declared.Xoshiro256PlusPlus.{Xoshiro256PlusPlus}
 use Rattle.words.specs.Refusal as refusal
 use Rattle.vrd_ffi.specs.Answers.{told, atBoundary}
-use Rattle.vrd_ffi.specs.Handed.{word, wordOf32}
-use Rattle.vrd_ffi.specs.declared.answers.Word.{Word}
 use Rattle.bench_ffi.specs.declared.lent_loops.Sums.{Sums}
 use Rattle.bench_ffi.specs.Loops.{pcg32Words, pcg64Words, twisterWords, xoshiroWords}
-use Rattle.bench_ffi.specs.Rows.{wordsRow, drawsRow, sums, sumsOf}
+use Rattle.bench_ffi.specs.Rows.{drawsRow, sums, sumsOf}
 
 -- a generator's own words in a row: kind 0,
 abbrev pub XoshiroWordsPromise : Xoshiro256PlusPlus → ℕ → drawn-xoshiro.Drawn64 → Type 0
@@ -40,20 +38,6 @@ TwisterWordsInPromise mt mti n r mt′ = stepped r mt′ ≡ twisterWords n (hel
 abbrev pub TwisterWordsPromise : MersenneTwister → ℕ → drawn-twister.Drawn32 → Type 0
 TwisterWordsPromise g n r = r ≡ twisterWords n g
 
--- ---- rows from a lent generator: whether over its table or by value, the same
-
--- words in a row over the lent table,
-abbrev pub BenchWordsInPromise : List ℕ → List ℕ → (n : ℕ) → Word → List ℕ → List ℕ → Type 0
-BenchWordsInPromise s t n r s′ t′ = told r s′ t′ ≡ atBoundary s t (word 0 refusal.kind) (λ g. wordOf32 (wordsRow n g))
-
--- and by value
-abbrev pub BenchWordsByValuePromise : List ℕ → List ℕ → (n : ℕ) → Word → List ℕ → List ℕ → Type 0
-BenchWordsByValuePromise = BenchWordsInPromise
-
--- draws in a row over the lent table,
+-- draws in a row from a lent generator, over its table
 abbrev pub BenchDrawsInPromise : List ℕ → List ℕ → (r budget n : ℕ) → Sums → List ℕ → List ℕ → Type 0
 BenchDrawsInPromise s t r budget n a s′ t′ = told a s′ t′ ≡ atBoundary s t (sums 0 0 refusal.kind) (λ g. sumsOf (drawsRow r budget n g))
-
--- and by value
-abbrev pub BenchDrawsByValuePromise : List ℕ → List ℕ → (r budget n : ℕ) → Sums → List ℕ → List ℕ → Type 0
-BenchDrawsByValuePromise = BenchDrawsInPromise

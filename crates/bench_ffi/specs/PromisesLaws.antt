@@ -13,10 +13,8 @@ use Rattle.pcg.specs.declared.pcg64.Pcg64.{Pcg64}
 use Rattle.xoshiro.specs.declared.Drawn64 as drawn-xoshiro
 use Rattle.xoshiro.specs.declared.Xoshiro256PlusPlus.{Xoshiro256PlusPlus}
 use Rattle.vrd_ffi.specs.AnswersLaws.{told-apart}
-use Rattle.vrd_ffi.specs.declared.answers.Word.{Word}
 use Rattle.bench_ffi.specs.declared.lent_loops.Sums.{Sums}
-use Rattle.bench_ffi.specs.Promises.{BenchDrawsByValuePromise, BenchDrawsInPromise, BenchWordsByValuePromise, BenchWordsInPromise}
-use Rattle.bench_ffi.specs.Promises.{Pcg32WordsPromise, Pcg64WordsPromise, TwisterWordsInPromise}
+use Rattle.bench_ffi.specs.Promises.{BenchDrawsInPromise, Pcg32WordsPromise, Pcg64WordsPromise, TwisterWordsInPromise}
 use Rattle.bench_ffi.specs.Promises.{TwisterWordsPromise, XoshiroWordsPromise}
 
 pub one-xoshiro-words : (g : Xoshiro256PlusPlus) (n : ℕ) {a b : drawn-xoshiro.Drawn64}
@@ -37,21 +35,7 @@ pub one-twister-words : (g : MersenneTwister) (n : ℕ) {a b : drawn-twister.Dra
     → TwisterWordsPromise g n a → TwisterWordsPromise g n b → a ≡ b
 one-twister-words g n p q = p ∙ sym q
 
--- ---- rows from a lent generator: one answer, one state, one table
-
-module _ (s t : List ℕ) {s₁ s₂ t₁ t₂ : List ℕ} where
-  pub one-bench-words-in : (n : ℕ) {a b : Word} → BenchWordsInPromise s t n a s₁ t₁ → BenchWordsInPromise s t n b s₂ t₂
-      → (a ≡ b) × (s₁ ≡ s₂) × (t₁ ≡ t₂)
-  one-bench-words-in n p q = told-apart (p ∙ sym q)
-
-  pub one-bench-words-by-value : (n : ℕ) {a b : Word} → BenchWordsByValuePromise s t n a s₁ t₁ → BenchWordsByValuePromise s t n b s₂ t₂
-      → (a ≡ b) × (s₁ ≡ s₂) × (t₁ ≡ t₂)
-  one-bench-words-by-value = one-bench-words-in
-
-  pub one-bench-draws-in : (r budget n : ℕ) {a b : Sums}
-      → BenchDrawsInPromise s t r budget n a s₁ t₁ → BenchDrawsInPromise s t r budget n b s₂ t₂ → (a ≡ b) × (s₁ ≡ s₂) × (t₁ ≡ t₂)
-  one-bench-draws-in r budget n p q = told-apart (p ∙ sym q)
-
-  pub one-bench-draws-by-value : (r budget n : ℕ) {a b : Sums}
-      → BenchDrawsByValuePromise s t r budget n a s₁ t₁ → BenchDrawsByValuePromise s t r budget n b s₂ t₂ → (a ≡ b) × (s₁ ≡ s₂) × (t₁ ≡ t₂)
-  one-bench-draws-by-value = one-bench-draws-in
+-- draws from a lent generator: one answer, one state, one table
+pub one-bench-draws-in : (s t : List ℕ) {s₁ s₂ t₁ t₂ : List ℕ} (r budget n : ℕ) {a b : Sums}
+    → BenchDrawsInPromise s t r budget n a s₁ t₁ → BenchDrawsInPromise s t r budget n b s₂ t₂ → (a ≡ b) × (s₁ ≡ s₂) × (t₁ ≡ t₂)
+one-bench-draws-in s t r budget n p q = told-apart (p ∙ sym q)

@@ -1,12 +1,10 @@
-// Loops over a lent generator: its state is read once and written once, and in between its small words are handed on and its table is
+// A loop over a lent generator: its state is read once and written once, and in between its small words are handed on and its table is
 // lent. What the calls in place cost beside them is so told apart from what the library's calls cost.
 ghost use mathlib.Core.Path.{_≡_};
-ghost use Rattle.random.specs.Lent.{joinedWith, joinedWord};
-ghost use Rattle.bench_ffi.specs.Promises.{BenchWordsInPromise, BenchDrawsInPromise};
-ghost use Rattle.bench_ffi.specs.Rows.{wordsRow, drawsRow, lentTotal};
+ghost use Rattle.random.specs.Lent.{joinedWith};
+ghost use Rattle.bench_ffi.specs.Promises.{BenchDrawsInPromise};
+ghost use Rattle.bench_ffi.specs.Rows.{drawsRow, lentTotal};
 use random::Engine;
-use random::EngineWord;
-use vrd_ffi::Word;
 use vrd_ffi::engine_in;
 use vrd_ffi::write;
 use words::refusal;
@@ -17,42 +15,6 @@ pub struct Sums {
     pub sum: u64,
     pub used: u64,
     pub refusal: u32,
-}
-
-// The XOR of the next n words, and the engine after them.
-fn words_row(e: Engine, mt: &mut [u32; 624], n: u64) -> EngineWord
-    ensures { λ d. ⌜ joinedWord d (now (mt .exit)) ≡ wordsRow n (joinedWith e (now (mt .entry))) ⌝ }
-{
-    let mut next = e;
-    let mut word: u32 = 0;
-    let mut i: u64 = 0;
-    while i < n {
-        let d = random::next_u32(next, mt);
-        word = word ^ d.word;
-        next = d.next;
-        i += 1;
-    }
-    EngineWord { word, next }
-}
-
-// The XOR of the next n words of 32 bits.
-#[no_mangle]
-pub extern "C" fn bench_words_in(state: &mut [u64; 6], table: &mut [u32; 624], n: u64) -> Word
-    ensures { λ r. ⌜ BenchWordsInPromise (now (state .entry)) (now (table .entry)) n r (now (state .exit)) (now (table .exit)) ⌝ }
-{
-    if state[0] > 3 {
-        return Word {
-            value: 0,
-            refusal: refusal::KIND,
-        };
-    }
-    let d = words_row(engine_in(state), table, n);
-    let e = d.next;
-    write(e, state);
-    Word {
-        value: d.word as u64,
-        refusal: refusal::ANSWERED,
-    }
 }
 
 // What draws come to: the sums, and the engine after them.

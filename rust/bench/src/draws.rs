@@ -1,9 +1,9 @@
-//! Words and draws below 40 of the facade in a row: the original's loops, and those that the port exports, over a lent generator and by
-//! value. The words XORed, the sums, the words used and the generators after them are compared.
+//! Words and draws below 40 of the facade in a row: the original's loops, and those that the port exports, by value and, of draws, over a
+//! lent generator. The words XORed, the sums, the words used and the generators after them are compared.
 
 use crate::kinds;
 use crate::timing::{timed, Case, Limit, Run};
-use port::{State, Sums, Table, Word};
+use port::{State, Sums, Table};
 
 /// The bound, and a budget that no draw comes near.
 pub const BOUND: u32 = 40;
@@ -13,30 +13,23 @@ pub const BUDGET: u32 = 1_000;
 const BY_VALUE: Limit = Limit::Nanoseconds(200.0);
 const FEWER: u64 = 10;
 
-type Words = extern "C" fn(&mut State, &mut Table, u64) -> Word<u64>;
 type Draws = extern "C" fn(&mut State, &mut Table, u32, u32, u64) -> Sums;
 
 pub fn cases(seed: u64, turns: u64) -> Vec<Case> {
     let few = turns / FEWER;
-    let words: [(&str, u64, Limit, Words); 2] = [
-        ("rand, loop over a lent generator", turns, Limit::Times(1.35), port::bench_words_in),
-        ("rand, loop by value", few, BY_VALUE, port::bench_words_by_value),
-    ];
     let draws: [(&str, u64, Limit, Draws); 2] = [
         ("draw below 40, loop over a lent generator", turns, Limit::Times(2.0), port::bench_draws_in),
         ("draw below 40, loop by value", few, BY_VALUE, port::bench_draws_by_value),
     ];
     let kinds = || (0..4).map(|kind| (kind, kinds::NAMES[kind]));
-    let word_cases = words.into_iter().flat_map(|(what, count, limit, call)| {
-        kinds().map(move |(kind, name)| Case {
-            what,
-            kind: name,
-            count,
-            unit: "word",
-            limit,
-            original: Box::new(move || original_words(kind, seed, count)),
-            port: Box::new(move || port_words(kind, seed, count, call)),
-        })
+    let word_cases = kinds().map(|(kind, name)| Case {
+        what: "rand, loop by value",
+        kind: name,
+        count: few,
+        unit: "word",
+        limit: BY_VALUE,
+        original: Box::new(move || original_words(kind, seed, few)),
+        port: Box::new(move || port_words(kind, seed, few)),
     });
     let draw_cases = draws.into_iter().flat_map(|(what, count, limit, call)| {
         kinds().map(move |(kind, name)| Case {
@@ -61,8 +54,12 @@ fn original_words(kind: usize, seed: u64, n: u64) -> Run {
     timed(kinds::original(kind, seed), |g| xored(g, n), |xor, g| [vec![xor], kinds::original_parts(g)].concat())
 }
 
-fn port_words(kind: usize, seed: u64, n: u64, call: Words) -> Run {
-    timed(kinds::lent(kind, seed), |g| call(&mut g.0, &mut g.1, n), |word, g| [vec![word.value], kinds::lent_parts(g)].concat())
+fn port_words(kind: usize, seed: u64, n: u64) -> Run {
+    timed(
+        kinds::lent(kind, seed),
+        |g| port::bench_words_by_value(&mut g.0, &mut g.1, n),
+        |word, g| [vec![word.value], kinds::lent_parts(g)].concat(),
+    )
 }
 
 #[inline(never)]

@@ -1,4 +1,4 @@
-//! The names, arguments and answers of the exports: the one place to change when the Rattle crate `bench_ffi` does.
+//! The names, arguments and answers of the exports: the one place to change when the Rattle crates `bench_ffi` and `bench_values` do.
 
 use vrd::exports::{State, Table, Wide, Word};
 
@@ -111,10 +111,9 @@ unsafe extern "C" {
 // above 3 is refused with 10.
 unsafe extern "C" {
     // Over the lent generator.
-    pub safe fn bench_words_in(state: &mut State, table: &mut Table, n: u64) -> Word<u64>;
     pub safe fn bench_draws_in(state: &mut State, table: &mut Table, bound: u32, budget: u32, n: u64) -> Sums;
 
-    // Each word and draw by the library's call by value.
+    // Each word and draw by the library's call by value: the exports of `bench_values`.
     pub safe fn bench_words_by_value(state: &mut State, table: &mut Table, n: u64) -> Word<u64>;
     pub safe fn bench_draws_by_value(state: &mut State, table: &mut Table, bound: u32, budget: u32, n: u64) -> Sums;
 }

@@ -1,4 +1,4 @@
-//! The library's calls by value, `rand` and `bounded`, in a row, and the same loops over a lent generator: the words XORed, or the numbers
+//! The library's calls by value, `rand` and `bounded`, in a row, and the same draws over a lent generator: the words XORed, or the numbers
 //! drawn and the words used added up, against the original.
 
 use super::draws::words_between;
@@ -28,17 +28,15 @@ type Words = extern "C" fn(&mut State, &mut Table, u64) -> Word<u64>;
 type Draws = extern "C" fn(&mut State, &mut Table, u32, u32, u64) -> Sums;
 
 pub fn compare(tally: &mut Tally) {
-    let words: [(&str, Words); 2] = [("rand by value, loop", port::bench_words_by_value), ("rand lent, loop", port::bench_words_in)];
+    let words: (&str, Words) = ("rand by value, loop", port::bench_words_by_value);
     let draws: [(&str, Draws); 2] = [("bounded by value, loop", port::bench_draws_by_value), ("bounded lent, loop", port::bench_draws_in)];
     for (kind, name) in KINDS.into_iter().enumerate() {
-        for (call, port) in words {
-            tally.row(name, call, |row| words_in_a_row(row, kind, port));
-        }
+        tally.row(name, words.0, |row| words_in_a_row(row, kind, words.1));
         for (call, port) in draws {
             tally.row(name, call, |row| draws_in_a_row(row, kind, port));
         }
     }
-    tally.row("above 3", "the loops, refused with 10", |row| no_kind(row, &words, &draws));
+    tally.row("above 3", "the loops, refused with 10", |row| no_kind(row, words, &draws));
 }
 
 /// The lengths of loops that have so many turns together.
@@ -109,14 +107,13 @@ fn draws_in_a_row(row: &mut Row, kind: usize, port: Draws) {
 }
 
 /// A kind that there is not: nothing is drawn, and nothing changes.
-fn no_kind(row: &mut Row, words: &[(&str, Words)], draws: &[(&str, Draws)]) {
+fn no_kind(row: &mut Row, words: (&str, Words), draws: &[(&str, Draws)]) {
     for kind in [4, 1 << 32, u64::MAX] {
         let before = Lent::new([kind, 1, 2, 3, 4, 5], [7; 624]);
-        for (name, port) in words {
-            let mut lent = before.clone();
-            let found = port(&mut lent.state, &mut lent.table, 5);
-            row.case((10, 0, before.arrays()), (found.refusal, found.value, lent.arrays()), || format!("{name} of kind {kind}"));
-        }
+        let (name, port) = words;
+        let mut lent = before.clone();
+        let found = port(&mut lent.state, &mut lent.table, 5);
+        row.case((10, 0, before.arrays()), (found.refusal, found.value, lent.arrays()), || format!("{name} of kind {kind}"));
         for (name, port) in draws {
             let mut lent = before.clone();
             let found = port(&mut lent.state, &mut lent.table, 40, 100, 5);

@@ -4,8 +4,8 @@ use mathlib.Core.Path.{_≡_}
 use native.Mathlib.Omega.{arith}
 use Prim.Native.Nat.{_≤_, _-_}
 use Rattle.random.specs.WordsLaws.{Xored, xored-none, xored-more}
-use Rattle.bench_ffi.proofs.value_loops.words_by_value.Statement.{statement}
-use Rattle.bench_ffi.proofs.value_loops.words_by_value.Tie as tie
+use Rattle.bench_values.proofs.value_loops.words_by_value.Statement.{statement}
+use Rattle.bench_values.proofs.value_loops.words_by_value.Tie as tie
 
 abbrev Inv-loop : tie.InvT-loop
 Inv-loop n next₀ word₀ i₀ next word i = (i ≤ n) × Xored next₀ i word next

@@ -1,10 +1,10 @@
--- `bench_words_by_value` meets its contract: an unknown kind, and the row.
+-- `bench_draws_by_value` meets its contract: an unknown kind, and the row.
 use borrow.Author.Needs.{needs}
 use mathlib.Core.Path.{ap}
 use Rattle.vrd_ffi.specs.AnswersLaws.{unknown-kind, wrote}
-use Rattle.vrd_ffi.specs.Handed.{wordOf32}
-use Rattle.bench_ffi.proofs.value_loops.bench_words_by_value.Statement.{statement}
-use Rattle.bench_ffi.proofs.value_loops.bench_words_by_value.Tie as tie
+use Rattle.bench_ffi.specs.Rows.{sumsOf}
+use Rattle.bench_values.proofs.value_loops.bench_draws_by_value.Statement.{statement}
+use Rattle.bench_values.proofs.value_loops.bench_draws_by_value.Tie as tie
 
 element-copy-out-if1 : tie.Need-element-copy-out-if1
 element-copy-out-if1 c = search needs
@@ -18,8 +18,8 @@ engine-in-requires c κs = search needs
 with-table-requires : tie.Need-with-table-requires
 with-table-requires c κs = search needs
 
-words-by-value-requires : tie.Need-words-by-value-requires
-words-by-value-requires c κs = search needs
+draws-by-value-requires : tie.Need-draws-by-value-requires
+draws-by-value-requires c κs = search needs
 
 engine-of-requires : tie.Need-engine-of-requires
 engine-of-requires c κs = search needs
@@ -27,29 +27,24 @@ engine-of-requires c κs = search needs
 write-requires : tie.Need-write-requires
 write-requires c κs = search needs
 
-cast-t9 : tie.Need-cast-t9
-cast-t9 c = search needs
-
 returns-2 : tie.Need-returns-2
 returns-2 c =
-    let done = c .before in
-    let read = done .before .before in
+    let read = c .before .before in
     let call = read .before .before .before in
     let came = call .before .before .before in
-    let row = rw (call .before .with-table .ensures, came .engine-in .ensures) at (call .words-by-value .ensures) in
-    let state = rw (read .engine-of .ensures) at (done .write .ensures) in
-    wrote _ _ _ _ (came .before .before .if1 .left) _ _ _ _ state (ap wordOf32 row)
+    let row = rw (call .before .with-table .ensures, came .engine-in .ensures) at (call .draws-by-value .ensures) in
+    let state = rw (read .engine-of .ensures) at (c .write .ensures) in
+    wrote _ _ _ _ (came .before .before .if1 .left) _ _ _ _ state (ap sumsOf row)
 
-pub bench-words-by-value-spec : {M : Type 1} → statement M
-bench-words-by-value-spec =
+pub bench-draws-by-value-spec : {M : Type 1} → statement M
+bench-draws-by-value-spec =
     tie.close
     (tie.spec
     element-copy-out-if1
     returns
     engine-in-requires
     with-table-requires
-    words-by-value-requires
+    draws-by-value-requires
     engine-of-requires
     write-requires
-    cast-t9
     returns-2)

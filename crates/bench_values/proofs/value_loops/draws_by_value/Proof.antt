@@ -3,10 +3,10 @@ use mathlib.Core.Path.{_≡_}
 use Prim.Native.Nat.{_≤_, _-_}
 use native.Mathlib.Omega.{arith}
 use borrow.Author.Needs.{needs}
 use Rattle.bench_ffi.specs.Rows.{drawsRow}
 use Rattle.bench_ffi.specs.RowsLaws.{row-begins, row-goes-on}
-use Rattle.bench_ffi.proofs.value_loops.draws_by_value.Statement.{statement}
-use Rattle.bench_ffi.proofs.value_loops.draws_by_value.Tie as tie
+use Rattle.bench_values.proofs.value_loops.draws_by_value.Statement.{statement}
+use Rattle.bench_values.proofs.value_loops.draws_by_value.Tie as tie
 
 abbrev Inv-loop : tie.InvT-loop
 Inv-loop r budget n next₀ sum₀ used₀ i₀ next sum used i =
