@@ -2,5 +2,6 @@
 
 fn main() {
     archive::link("bench_ffi");
+    archive::link("bench_lent");
     archive::link("bench_values");
 }

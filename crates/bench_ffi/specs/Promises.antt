@@ -12,11 +12,7 @@ use Rattle.pcg.specs.declared.pcg64.Drawn64 as drawn-pcg64
 use Rattle.pcg.specs.declared.pcg64.Pcg64.{Pcg64}
 use Rattle.xoshiro.specs.declared.Drawn64 as drawn-xoshiro
 use Rattle.xoshiro.specs.declared.Xoshiro256PlusPlus.{Xoshiro256PlusPlus}
-use Rattle.words.specs.Refusal as refusal
-use Rattle.vrd_ffi.specs.Answers.{told, atBoundary}
-use Rattle.bench_ffi.specs.declared.lent_loops.Sums.{Sums}
 use Rattle.bench_ffi.specs.Loops.{pcg32Words, pcg64Words, twisterWords, xoshiroWords}
-use Rattle.bench_ffi.specs.Rows.{drawsRow, sums, sumsOf}
 
 -- a generator's own words in a row: kind 0,
 abbrev pub XoshiroWordsPromise : Xoshiro256PlusPlus → ℕ → drawn-xoshiro.Drawn64 → Type 0
@@ -37,7 +33,3 @@ TwisterWordsInPromise mt mti n r mt′ = stepped r mt′ ≡ twisterWords n (hel
 -- and by value
 abbrev pub TwisterWordsPromise : MersenneTwister → ℕ → drawn-twister.Drawn32 → Type 0
 TwisterWordsPromise g n r = r ≡ twisterWords n g
-
--- draws in a row from a lent generator, over its table
-abbrev pub BenchDrawsInPromise : List ℕ → List ℕ → (r budget n : ℕ) → Sums → List ℕ → List ℕ → Type 0
-BenchDrawsInPromise s t r budget n a s′ t′ = told a s′ t′ ≡ atBoundary s t (sums 0 0 refusal.kind) (λ g. sumsOf (drawsRow r budget n g))

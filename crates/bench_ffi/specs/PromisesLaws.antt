@@ -12,9 +12,7 @@ use Rattle.pcg.specs.declared.pcg64.Drawn64 as drawn-pcg64
 use Rattle.pcg.specs.declared.pcg64.Pcg64.{Pcg64}
 use Rattle.xoshiro.specs.declared.Drawn64 as drawn-xoshiro
 use Rattle.xoshiro.specs.declared.Xoshiro256PlusPlus.{Xoshiro256PlusPlus}
-use Rattle.vrd_ffi.specs.AnswersLaws.{told-apart}
-use Rattle.bench_ffi.specs.declared.lent_loops.Sums.{Sums}
-use Rattle.bench_ffi.specs.Promises.{BenchDrawsInPromise, Pcg32WordsPromise, Pcg64WordsPromise, TwisterWordsInPromise}
+use Rattle.bench_ffi.specs.Promises.{Pcg32WordsPromise, Pcg64WordsPromise, TwisterWordsInPromise}
 use Rattle.bench_ffi.specs.Promises.{TwisterWordsPromise, XoshiroWordsPromise}
 
 pub one-xoshiro-words : (g : Xoshiro256PlusPlus) (n : ℕ) {a b : drawn-xoshiro.Drawn64}
@@ -34,8 +32,3 @@ one-twister-words-in mt mti n p q = step-apart (p ∙ sym q)
 pub one-twister-words : (g : MersenneTwister) (n : ℕ) {a b : drawn-twister.Drawn32}
     → TwisterWordsPromise g n a → TwisterWordsPromise g n b → a ≡ b
 one-twister-words g n p q = p ∙ sym q
-
--- draws from a lent generator: one answer, one state, one table
-pub one-bench-draws-in : (s t : List ℕ) {s₁ s₂ t₁ t₂ : List ℕ} (r budget n : ℕ) {a b : Sums}
-    → BenchDrawsInPromise s t r budget n a s₁ t₁ → BenchDrawsInPromise s t r budget n b s₂ t₂ → (a ≡ b) × (s₁ ≡ s₂) × (t₁ ≡ t₂)
-one-bench-draws-in s t r budget n p q = told-apart (p ∙ sym q)

@@ -6,8 +6,8 @@ use Rattle.words.specs.Refusal as refusal
 use Rattle.vrd_ffi.specs.Answers.{told, atBoundary}
 use Rattle.vrd_ffi.specs.Handed.{word, wordOf32}
 use Rattle.vrd_ffi.specs.declared.answers.Word.{Word}
-use Rattle.bench_ffi.specs.Promises.{BenchDrawsInPromise}
-use Rattle.bench_ffi.specs.declared.lent_loops.Sums.{Sums}
+use Rattle.bench_lent.specs.Promises.{BenchDrawsInPromise}
+use Rattle.bench_lent.specs.declared.lent_loops.Sums.{Sums}
 use Rattle.bench_values.specs.Rows.{wordsRow}
 
 -- words in a row: their XOR, and the generator after them

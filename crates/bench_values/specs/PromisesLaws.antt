@@ -4,8 +4,8 @@ use mathlib.Core.Path.{_≡_, sym, _∙_}
 use Prim.Native.Nat.{ℕ}
 use Rattle.vrd_ffi.specs.AnswersLaws.{told-apart}
 use Rattle.vrd_ffi.specs.declared.answers.Word.{Word}
-use Rattle.bench_ffi.specs.PromisesLaws.{one-bench-draws-in}
-use Rattle.bench_ffi.specs.declared.lent_loops.Sums.{Sums}
+use Rattle.bench_lent.specs.PromisesLaws.{one-bench-draws-in}
+use Rattle.bench_lent.specs.declared.lent_loops.Sums.{Sums}
 use Rattle.bench_values.specs.Promises.{BenchDrawsByValuePromise, BenchWordsByValuePromise}
 
 module _ (s t : List ℕ) {s₁ s₂ t₁ t₂ : List ℕ} where

@@ -4,7 +4,7 @@ use Prim.Native.Nat.{ℕ}
 use Rattle.random.specs.Generator.{later, wordsOf, xorOf}
 use Rattle.random.specs.declared.backend.Random.{Random}
 use Rattle.random.specs.declared.by_value.Word32.{Word32}
-use Rattle.bench_ffi.specs.Rows.{Total}
+use Rattle.bench_lent.specs.Rows.{Total}
 use Rattle.bench_values.specs.declared.value_loops.RandomSums.{RandomSums}
 
 -- n words XORed

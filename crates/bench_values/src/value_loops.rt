@@ -1,9 +1,9 @@
 // Rows by the library's calls by value: each takes the whole generator and hands it back, so that the table is copied in and out.
 ghost use mathlib.Core.Path.{_≡_};
-ghost use Rattle.bench_ffi.specs.Rows.{drawsRow};
+ghost use Rattle.bench_lent.specs.Rows.{drawsRow};
 ghost use Rattle.bench_values.specs.Promises.{BenchWordsByValuePromise, BenchDrawsByValuePromise};
 ghost use Rattle.bench_values.specs.Rows.{wordsRow, valueTotal};
-use bench_ffi::Sums;
+use bench_lent::Sums;
 use random::Random;
 use random::Word32;
 use random::engine_of;

@@ -1,4 +1,4 @@
-//! The names, arguments and answers of the exports: the one place to change when the Rattle crates `bench_ffi` and `bench_values` do.
+//! The names, arguments and answers of the exports: the one place to change when `bench_ffi`, `bench_lent` or `bench_values` does.
 
 use vrd::exports::{State, Table, Wide, Word};
 
@@ -110,7 +110,7 @@ unsafe extern "C" {
 // Loops over the facade: n words of 32 bits XORed, and n draws below a bound, each within the budget. A refused draw adds nothing. A kind
 // above 3 is refused with 10.
 unsafe extern "C" {
-    // Over the lent generator.
+    // Over the lent generator: the export of `bench_lent`.
     pub safe fn bench_draws_in(state: &mut State, table: &mut Table, bound: u32, budget: u32, n: u64) -> Sums;
 
     // Each word and draw by the library's call by value: the exports of `bench_values`.

@@ -2,7 +2,7 @@
 use borrow.Author.Needs.{needs}
 use mathlib.Core.Path.{ap}
 use Rattle.vrd_ffi.specs.AnswersLaws.{unknown-kind, wrote}
-use Rattle.bench_ffi.specs.Rows.{sumsOf}
+use Rattle.bench_lent.specs.Rows.{sumsOf}
 use Rattle.bench_values.proofs.value_loops.bench_draws_by_value.Statement.{statement}
 use Rattle.bench_values.proofs.value_loops.bench_draws_by_value.Tie as tie
 

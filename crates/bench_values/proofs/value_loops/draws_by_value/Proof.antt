@@ -3,8 +3,8 @@ use mathlib.Core.Path.{_≡_}
 use Prim.Native.Nat.{_≤_, _-_}
 use native.Mathlib.Omega.{arith}
 use borrow.Author.Needs.{needs}
-use Rattle.bench_ffi.specs.Rows.{drawsRow}
-use Rattle.bench_ffi.specs.RowsLaws.{row-begins, row-goes-on}
+use Rattle.bench_lent.specs.Rows.{drawsRow}
+use Rattle.bench_lent.specs.RowsLaws.{row-begins, row-goes-on}
 use Rattle.bench_values.proofs.value_loops.draws_by_value.Statement.{statement}
 use Rattle.bench_values.proofs.value_loops.draws_by_value.Tie as tie
 

@@ -4,7 +4,7 @@ use Prim.Native.Nat.{ℕ, _+_}
 use native.Mathlib.Numerals.{add-one}
 use Rattle.random.specs.declared.backend.Random.{Random}
 use Rattle.bounded.specs.declared.answers.Answer.{Answer}
-use Rattle.bench_ffi.specs.Rows.{Total, oneDraw, plus, drawsRow}
+use Rattle.bench_lent.specs.Rows.{Total, oneDraw, plus, drawsRow}
 
 pub row-begins : (r budget : ℕ) (g : Random) → record { sum = 0; used = 0; next = g } ≡ drawsRow r budget 0 g
 unfolding drawsRow

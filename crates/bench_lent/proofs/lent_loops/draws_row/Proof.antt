@@ -4,10 +4,10 @@ use Prim.Native.Nat.{_≤_, _-_}
 use native.Mathlib.Omega.{arith}
 use borrow.Author.Needs.{needs}
 use Rattle.random.specs.Lent.{joinedWith}
-use Rattle.bench_ffi.specs.Rows.{drawsRow}
-use Rattle.bench_ffi.specs.RowsLaws.{row-begins, row-goes-on}
-use Rattle.bench_ffi.proofs.lent_loops.draws_row.Statement.{statement}
-use Rattle.bench_ffi.proofs.lent_loops.draws_row.Tie as tie
+use Rattle.bench_lent.specs.Rows.{drawsRow}
+use Rattle.bench_lent.specs.RowsLaws.{row-begins, row-goes-on}
+use Rattle.bench_lent.proofs.lent_loops.draws_row.Statement.{statement}
+use Rattle.bench_lent.proofs.lent_loops.draws_row.Tie as tie
 
 abbrev Inv-loop : tie.InvT-loop
 Inv-loop mt₀ r budget n next₀ sum₀ used₀ i₀ mt next sum used i =

@@ -10,8 +10,8 @@ use Rattle.random.specs.declared.backend.Random.{Random}
 use Rattle.bounded.specs.Answers as answers
 use Rattle.bounded.specs.declared.answers.Answer.{Answer}
 use Rattle.vrd_ffi.specs.Answers.{Reply, gives}
-use Rattle.bench_ffi.specs.declared.lent_loops.EngineSums.{EngineSums}
-use Rattle.bench_ffi.specs.declared.lent_loops.Sums.{Sums}
+use Rattle.bench_lent.specs.declared.lent_loops.EngineSums.{EngineSums}
+use Rattle.bench_lent.specs.declared.lent_loops.Sums.{Sums}
 
 -- what draws come to
 pub record Total : Type 0 where

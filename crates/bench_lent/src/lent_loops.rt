@@ -2,8 +2,8 @@
 // lent. What the calls in place cost beside them is so told apart from what the library's calls cost.
 ghost use mathlib.Core.Path.{_≡_};
 ghost use Rattle.random.specs.Lent.{joinedWith};
-ghost use Rattle.bench_ffi.specs.Promises.{BenchDrawsInPromise};
-ghost use Rattle.bench_ffi.specs.Rows.{drawsRow, lentTotal};
+ghost use Rattle.bench_lent.specs.Promises.{BenchDrawsInPromise};
+ghost use Rattle.bench_lent.specs.Rows.{drawsRow, lentTotal};
 use random::Engine;
 use vrd_ffi::engine_in;
 use vrd_ffi::write;

@@ -2,9 +2,9 @@
 use borrow.Author.Needs.{needs}
 use mathlib.Core.Path.{ap}
 use Rattle.vrd_ffi.specs.AnswersLaws.{unknown-kind, wrote}
-use Rattle.bench_ffi.specs.Rows.{sumsOf}
-use Rattle.bench_ffi.proofs.lent_loops.bench_draws_in.Statement.{statement}
-use Rattle.bench_ffi.proofs.lent_loops.bench_draws_in.Tie as tie
+use Rattle.bench_lent.specs.Rows.{sumsOf}
+use Rattle.bench_lent.proofs.lent_loops.bench_draws_in.Statement.{statement}
+use Rattle.bench_lent.proofs.lent_loops.bench_draws_in.Tie as tie
 
 element-copy-out-if1 : tie.Need-element-copy-out-if1
 element-copy-out-if1 c = search needs
