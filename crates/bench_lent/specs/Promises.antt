@@ -3,7 +3,7 @@ use mathlib.Core.List.{List}
 use mathlib.Core.Path.{_≡_}
 use Prim.Native.Nat.{ℕ}
 use Rattle.words.specs.Refusal as refusal
-use Rattle.vrd_ffi.specs.Answers.{told, atBoundary}
+use Rattle.lent_state.specs.Answers.{told, atBoundary}
 use Rattle.bench_lent.specs.declared.lent_loops.Sums.{Sums}
 use Rattle.bench_lent.specs.Rows.{drawsRow, sums, sumsOf}
 

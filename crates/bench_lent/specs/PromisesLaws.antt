@@ -2,7 +2,7 @@
 use mathlib.Core.List.{List}
 use mathlib.Core.Path.{_≡_, sym, _∙_}
 use Prim.Native.Nat.{ℕ}
-use Rattle.vrd_ffi.specs.AnswersLaws.{told-apart}
+use Rattle.lent_state.specs.AnswersLaws.{told-apart}
 use Rattle.bench_lent.specs.declared.lent_loops.Sums.{Sums}
 use Rattle.bench_lent.specs.Promises.{BenchDrawsInPromise}
 

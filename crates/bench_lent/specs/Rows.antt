@@ -9,7 +9,7 @@ use Rattle.random.specs.Lent.{joinedWith}
 use Rattle.random.specs.declared.backend.Random.{Random}
 use Rattle.bounded.specs.Answers as answers
 use Rattle.bounded.specs.declared.answers.Answer.{Answer}
-use Rattle.vrd_ffi.specs.Answers.{Reply, gives}
+use Rattle.lent_state.specs.Answers.{Reply, gives}
 use Rattle.bench_lent.specs.declared.lent_loops.EngineSums.{EngineSums}
 use Rattle.bench_lent.specs.declared.lent_loops.Sums.{Sums}
 

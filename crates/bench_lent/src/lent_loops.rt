@@ -4,9 +4,9 @@ ghost use mathlib.Core.Path.{_≡_};
 ghost use Rattle.random.specs.Lent.{joinedWith};
 ghost use Rattle.bench_lent.specs.Promises.{BenchDrawsInPromise};
 ghost use Rattle.bench_lent.specs.Rows.{drawsRow, lentTotal};
+use lent_state::held_in;
+use lent_state::write;
 use random::Engine;
-use vrd_ffi::engine_in;
-use vrd_ffi::write;
 use words::refusal;
 
 // The sums of values and of words used, modulo 2^64. Refused, they are 0.
@@ -60,7 +60,8 @@ pub extern "C" fn bench_draws_in(
             refusal: refusal::KIND,
         };
     }
-    let s = draws_row(engine_in(state), table, r, budget, n);
+    let held = held_in(state);
+    let s = draws_row(held.engine, table, r, budget, n);
     let e = s.next;
     write(e, state);
     Sums {

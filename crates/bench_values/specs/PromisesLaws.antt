@@ -2,14 +2,14 @@
 use mathlib.Core.List.{List}
 use mathlib.Core.Path.{_≡_, sym, _∙_}
 use Prim.Native.Nat.{ℕ}
-use Rattle.vrd_ffi.specs.AnswersLaws.{told-apart}
-use Rattle.vrd_ffi.specs.declared.answers.Word.{Word}
+use Rattle.lent_state.specs.AnswersLaws.{told-apart}
 use Rattle.bench_lent.specs.PromisesLaws.{one-bench-draws-in}
 use Rattle.bench_lent.specs.declared.lent_loops.Sums.{Sums}
+use Rattle.bench_values.specs.declared.value_loops.Xored.{Xored}
 use Rattle.bench_values.specs.Promises.{BenchDrawsByValuePromise, BenchWordsByValuePromise}
 
 module _ (s t : List ℕ) {s₁ s₂ t₁ t₂ : List ℕ} where
-  pub one-bench-words-by-value : (n : ℕ) {a b : Word} → BenchWordsByValuePromise s t n a s₁ t₁ → BenchWordsByValuePromise s t n b s₂ t₂
+  pub one-bench-words-by-value : (n : ℕ) {a b : Xored} → BenchWordsByValuePromise s t n a s₁ t₁ → BenchWordsByValuePromise s t n b s₂ t₂
       → (a ≡ b) × (s₁ ≡ s₂) × (t₁ ≡ t₂)
   one-bench-words-by-value n p q = told-apart (p ∙ sym q)
 

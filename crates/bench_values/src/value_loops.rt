@@ -4,14 +4,20 @@ ghost use Rattle.bench_lent.specs.Rows.{drawsRow};
 ghost use Rattle.bench_values.specs.Promises.{BenchWordsByValuePromise, BenchDrawsByValuePromise};
 ghost use Rattle.bench_values.specs.Rows.{wordsRow, valueTotal};
 use bench_lent::Sums;
+use lent_state::held_in;
+use lent_state::write;
 use random::Random;
 use random::Word32;
 use random::engine_of;
 use random::with_table;
-use vrd_ffi::Word;
-use vrd_ffi::engine_in;
-use vrd_ffi::write;
 use words::refusal;
+
+// The XOR of words. Refused, it is 0.
+#[repr(C)]
+pub struct Xored {
+    pub value: u64,
+    pub refusal: u32,
+}
 
 // The XOR of the next n words, and the generator after them.
 fn words_by_value(g: Random, n: u64) -> Word32
@@ -31,21 +37,26 @@ fn words_by_value(g: Random, n: u64) -> Word32
 
 // The XOR of the next n words of 32 bits.
 #[no_mangle]
-pub extern "C" fn bench_words_by_value(state: &mut [u64; 6], table: &mut [u32; 624], n: u64) -> Word
+pub extern "C" fn bench_words_by_value(
+    state: &mut [u64; 6],
+    table: &mut [u32; 624],
+    n: u64,
+) -> Xored
     ensures { λ r. ⌜ BenchWordsByValuePromise (now (state .entry)) (now (table .entry)) n r (now (state .exit)) (now (table .exit)) ⌝ }
 {
     if state[0] > 3 {
-        return Word {
+        return Xored {
             value: 0,
             refusal: refusal::KIND,
         };
     }
-    let d = words_by_value(with_table(engine_in(state), *table), n);
+    let held = held_in(state);
+    let d = words_by_value(with_table(held.engine, *table), n);
     let next = d.next;
     let mt = next.twister.mt;
     *table = mt;
     write(engine_of(next), state);
-    Word {
+    Xored {
         value: d.word as u64,
         refusal: refusal::ANSWERED,
     }
@@ -95,7 +106,8 @@ pub extern "C" fn bench_draws_by_value(
             refusal: refusal::KIND,
         };
     }
-    let s = draws_by_value(with_table(engine_in(state), *table), r, budget, n);
+    let held = held_in(state);
+    let s = draws_by_value(with_table(held.engine, *table), r, budget, n);
     let next = s.next;
     let mt = next.twister.mt;
     *table = mt;

@@ -24,11 +24,11 @@ use Rattle.parts.specs.Splitting.{engineSplit}
 use Rattle.parts.specs.declared.splitting.EngineSplit.{EngineSplit}
 use Rattle.shuffle.specs.Shuffle.{shuffleBy, shuffled}
 use Rattle.vrd_ffi.specs.declared.answers.Number.{Number}
-use Rattle.vrd_ffi.specs.Answers.{told, gives, formed, ofKnown}
-use Rattle.vrd_ffi.specs.AnswersLaws.{of-known, of-unknown, settled, wrote}
+use Rattle.lent_state.specs.Answers.{told, gives, formed, ofKnown}
+use Rattle.lent_state.specs.AnswersLaws.{of-known, of-unknown, settled, wrote}
 use Rattle.vrd_ffi.specs.Handed.{number, numberOf, drawnBy, listed, stateMade, made, halves, divided, sameRefusal, Equal}
 use Rattle.vrd_ffi.specs.Promises.{VrdShufflePromise, VrdFillBytesPromise, VrdMakePromise, VrdSplitPromise, VrdSamePromise}
-use Rattle.vrd_ffi.specs.State.{kindIn, engineFrom, generatorIn, stateWith, stateAfter, stateOf}
+use Rattle.lent_state.specs.State.{kindIn, engineFrom, generatorIn, stateWith, stateAfter, stateOf}
 
 -- ---- lists and buffers
 

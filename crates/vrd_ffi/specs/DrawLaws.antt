@@ -36,13 +36,13 @@ use Rattle.lists.specs.Choosing as choosing
 use Rattle.lists.specs.Limit.{listLimit}
 use Rattle.lists.specs.Slicing as slicing
 use Rattle.vrd_ffi.specs.declared.answers.Number.{Number}
-use Rattle.vrd_ffi.specs.Answers.{told, formed, atBoundary}
-use Rattle.vrd_ffi.specs.AnswersLaws.{same-reply, told-formed, refused-keeps}
+use Rattle.lent_state.specs.Answers.{told, formed, atBoundary}
+use Rattle.lent_state.specs.AnswersLaws.{same-reply, told-formed, refused-keeps}
 use Rattle.vrd_ffi.specs.Choosing.{entryOf}
 use Rattle.vrd_ffi.specs.Counting.{counted, countedModulo}
 use Rattle.vrd_ffi.specs.Handed.{number, integer, choice, numberOf, integerOf, choiceOf, startOf, drawnBy, countedBy}
 use Rattle.vrd_ffi.specs.Packed.{unpacked, Draws, Below}
-use Rattle.vrd_ffi.specs.State.{generatorIn}
+use Rattle.lent_state.specs.State.{generatorIn}
 
 -- nothing added changes nothing
 raised-zero : (o : Outcome) → raised 0 o ≡ o

@@ -42,8 +42,8 @@ use Rattle.vrd_ffi.specs.declared.answers.Number32.{Number32}
 use Rattle.vrd_ffi.specs.declared.answers.Number64.{Number64}
 use Rattle.vrd_ffi.specs.declared.answers.SignedWord.{SignedWord}
 use Rattle.vrd_ffi.specs.declared.answers.Word.{Word}
-use Rattle.vrd_ffi.specs.Answers.{Told, told, Reply, reply, gives, ofKnown}
-use Rattle.vrd_ffi.specs.State.{kindIn, generatorIn, stateWith, stateOf}
+use Rattle.lent_state.specs.Answers.{Told, told, Reply, reply, gives, ofKnown}
+use Rattle.lent_state.specs.State.{kindIn, generatorIn, stateWith, stateOf}
 
 -- ---- words
 

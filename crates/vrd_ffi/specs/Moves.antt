@@ -7,8 +7,8 @@ use Rattle.words.specs.Draw.{good, quotient}
 use Rattle.random.specs.Generator.{randOf, u64Of, wordOf, steps64}
 use Rattle.random.specs.declared.by_value.Word32.{Word32}
 use Rattle.random.specs.declared.by_value.Word64.{Word64}
-use Rattle.vrd_ffi.specs.Answers.{Reply, gives, told, written}
-use Rattle.vrd_ffi.specs.State.{kindIn, backendIn, generatorIn}
+use Rattle.lent_state.specs.Answers.{Reply, gives, told, written}
+use Rattle.lent_state.specs.State.{kindIn, backendIn, generatorIn}
 
 -- a word drawn, as a reply
 abbrev pub drew32 : Word32 → Reply ℕ

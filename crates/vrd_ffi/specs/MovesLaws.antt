@@ -1,11 +1,12 @@
 -- The laws of moves: each kind's own word, half a word of 64 bits, and the first word of a draw.
 use mathlib.Core.Path.{_≡_, refl, sym, _∙_, ap}
-use mathlib.Core.Bool.{Bool, true, cond}
+use mathlib.Core.Bool.{Bool, true, false, cond}
 use mathlib.Core.List.{List}
 use Prim.Native.Nat.{ℕ, zero, suc, _≤_, _<_, _/_, _*_, _%_, _^_, _+_}
 use native.Mathlib.Omega.{arith}
 use native.Mathlib.Nat.{mod-lt}
 use borrow.Author.Tests.{eq-eqb, ne-eqb}
+use lib.Dec.{eqb}
 use lib.ListN.{getD}
 use Rattle.words.specs.Draw.{good, quotient}
 use Rattle.words.specs.BelowItsBound.{quotient-below}
@@ -28,10 +29,11 @@ use Rattle.xoshiro.specs.declared.Drawn32 as xoshiro-drawn
 use Rattle.xoshiro.specs.declared.Drawn64 as xoshiro-drawn64
 use Rattle.random.specs.Generator.{step, later, wordOf, word64Of, steps64, randOf, u64Of}
 use Rattle.random.specs.GeneratorLaws.{rand-is-high-half}
-use Rattle.vrd_ffi.specs.Answers.{Told, told, written}
+use Rattle.random.specs.declared.backend.Backend.the-variants.{Xoshiro256PlusPlus, Pcg64}
+use Rattle.lent_state.specs.Answers.{Told, told, written}
 use Rattle.vrd_ffi.specs.Moves.{drew32, drew64, stepsIn, Moves32, Moves64, IsWide, Settled, Settles, Hit, Quick}
-use Rattle.vrd_ffi.specs.State.{kindIn, positionIn, xoshiroIn, pcg32In, pcg64In, backendIn, generatorIn}
-use Rattle.vrd_ffi.specs.State.{six, smallState, positionState, stateWith, stateAfter}
+use Rattle.lent_state.specs.State.{kindIn, positionIn, xoshiroIn, pcg32In, pcg64In, backendIn, generatorIn}
+use Rattle.lent_state.specs.State.{six, smallState, positionState, stateWith, stateAfter}
 
 -- ---- each kind's own words: `s′` is the state after the write
 
@@ -103,11 +105,16 @@ pub one-word : (s : List ℕ) → (kindIn s ≡ 1 → ⊥) → (kindIn s ≡ 2 �
 unfolding backendIn
 one-word s h l = go (kindIn s) refl
   where
+    -- kind 3, and a kind above it, which is read as kind 0
+    other : (is3 : Bool) → 1 ≡ steps64 (cond is3 (Pcg64 (pcg64In s)) (Xoshiro256PlusPlus (xoshiro.parts 0 0 0 0)))
+    other true = refl
+    other false = refl
+
     go : (n : ℕ) → kindIn s ≡ n → 1 ≡ stepsIn s
     go zero k = rw k
     go (suc n) k =
         let some : kindIn s ≡ 0 → ⊥ = λ z. omega (arith, k, z) in
-        rw (ne-eqb (getD s 0 0) 0 some, ne-eqb (getD s 0 0) 1 h, ne-eqb (getD s 0 0) 2 l)
+        rw (ne-eqb (getD s 0 0) 0 some, ne-eqb (getD s 0 0) 1 h, ne-eqb (getD s 0 0) 2 l) (other (eqb (getD s 0 0) 3))
 
 pub half-moved : (s t : List ℕ) (w : ℕ) (s′ u : List ℕ) → IsWide s → Moves64 s t w s′ u → Moves32 s t (w / 2 ^ 32) s′ u
 unfolding randOf u64Of later

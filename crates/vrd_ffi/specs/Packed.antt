@@ -9,7 +9,7 @@ use Rattle.words.specs.Draw.{boundedBy}
 use Rattle.words.specs.Refusal as refusal
 use Rattle.words.specs.Outcomes.{raised}
 use Rattle.vrd_ffi.specs.declared.answers.Number.{Number}
-use Rattle.vrd_ffi.specs.Answers.{told, atBoundary}
+use Rattle.lent_state.specs.Answers.{told, atBoundary}
 use Rattle.vrd_ffi.specs.Handed.{number, drawnBy}
 
 -- what such a number says

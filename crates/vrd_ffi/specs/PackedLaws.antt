@@ -25,12 +25,12 @@ use Rattle.words.specs.Outcomes.{raised}
 use Rattle.bounded.specs.declared.answers.Answer.{Answer}
 use Rattle.bounded.specs.declared.answers.EngineAnswer.{EngineAnswer}
 use Rattle.vrd_ffi.specs.declared.answers.Number.{Number}
-use Rattle.vrd_ffi.specs.Answers.{Told, told, Reply, reply, written, atBoundary}
-use Rattle.vrd_ffi.specs.AnswersLaws.{unknown-kind, known-kind, settled}
+use Rattle.lent_state.specs.Answers.{Told, told, Reply, reply, written, atBoundary}
+use Rattle.lent_state.specs.AnswersLaws.{unknown-kind, known-kind, settled}
 use Rattle.vrd_ffi.specs.Handed.{number, numberOf, drawnBy}
 use Rattle.vrd_ffi.specs.Moves.{Moves32, Settled, Hit}
 use Rattle.vrd_ffi.specs.Packed.{unpacked, packed, Draws, Below}
-use Rattle.vrd_ffi.specs.State.{kindIn, generatorIn, stateAfter}
+use Rattle.lent_state.specs.State.{kindIn, generatorIn, stateAfter}
 
 -- ---- what a packed number says
 

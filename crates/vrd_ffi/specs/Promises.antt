@@ -17,7 +17,6 @@ use Rattle.pcg.specs.Pcg64 as pcg64
 use Rattle.mersenne_twister.specs.Table as twister
 use Rattle.random.specs.Generator.{later, wordsOf, randOf, u64Of, i64Of, pseudoOf}
 use Rattle.random.specs.Lent.{tableIn}
-use Rattle.random.specs.declared.engine.Engine.{Engine}
 use Rattle.bounded.specs.Ranges.{rangeBy, charBy}
 use Rattle.spans.specs.Spans.{uintBy, intBy}
 use Rattle.lists.specs.Choosing as choosing
@@ -42,22 +41,12 @@ use Rattle.vrd_ffi.specs.declared.answers.Number32.{Number32}
 use Rattle.vrd_ffi.specs.declared.answers.Number64.{Number64}
 use Rattle.vrd_ffi.specs.declared.answers.SignedWord.{SignedWord}
 use Rattle.vrd_ffi.specs.declared.answers.Word.{Word}
-use Rattle.vrd_ffi.specs.Answers.{told, gives, formed, ofKnown, atBoundary}
+use Rattle.lent_state.specs.Answers.{told, gives, formed, ofKnown, atBoundary}
 use Rattle.vrd_ffi.specs.Handed.{word, signedWord, number, integer, choice, number32, number64, coin, zero32, zero64}
 use Rattle.vrd_ffi.specs.Handed.{wordOf32, wordOf64, signedOf64, drawnBy, countedBy, choiceOf, startOf}
 use Rattle.vrd_ffi.specs.Handed.{floatOf, doubleOf, coinOf, spreadOf}
 use Rattle.vrd_ffi.specs.Handed.{Listed, listed, stateMade, made, halves, divided, sameRefusal, Equal}
-use Rattle.vrd_ffi.specs.State.{backendIn, positionIn, engineFrom, stateWith}
-
--- ---- the two conversions
-
--- the engine that a state stands for
-abbrev pub EngineInPromise : List ℕ → Engine → Type 0
-EngineInPromise s r = r ≡ engineFrom s
-
--- an engine written to a state: what its kind does not use stays
-abbrev pub WritePromise : Engine → List ℕ → List ℕ → Type 0
-WritePromise e s s′ = s′ ≡ stateWith e s
+use Rattle.lent_state.specs.State.{backendIn, positionIn, engineFrom}
 
 -- ---- words
 

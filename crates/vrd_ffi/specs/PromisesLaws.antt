@@ -5,7 +5,6 @@ use lib.IntN.{ℤ}
 use mathlib.Core.List.{List, []}
 use mathlib.Core.Path.{_≡_, sym, _∙_, ap, ap₂}
 use Rattle.wrapping.specs.declared.wide.Wide.{Wide}
-use Rattle.random.specs.declared.engine.Engine.{Engine}
 use Rattle.parts.specs.Decides.{decides-once}
 use Rattle.vrd_ffi.specs.declared.answers.Choice.{Choice}
 use Rattle.vrd_ffi.specs.declared.answers.Coin.{Coin}
@@ -16,10 +15,9 @@ use Rattle.vrd_ffi.specs.declared.answers.Number32.{Number32}
 use Rattle.vrd_ffi.specs.declared.answers.Number64.{Number64}
 use Rattle.vrd_ffi.specs.declared.answers.SignedWord.{SignedWord}
 use Rattle.vrd_ffi.specs.declared.answers.Word.{Word}
-use Rattle.vrd_ffi.specs.Answers.{Told, told}
-use Rattle.vrd_ffi.specs.AnswersLaws.{told-apart}
+use Rattle.lent_state.specs.Answers.{Told, told}
+use Rattle.lent_state.specs.AnswersLaws.{told-apart}
 use Rattle.vrd_ffi.specs.Handed.{Listed, listed, Halves, Equal}
-use Rattle.vrd_ffi.specs.Promises.{EngineInPromise, WritePromise}
 use Rattle.vrd_ffi.specs.Promises.{VrdRandPromise, VrdU64Promise, VrdI64Promise, VrdPseudoPromise}
 use Rattle.vrd_ffi.specs.Promises.{VrdBoundedPromise, VrdRandomRangePromise, VrdCharPromise}
 use Rattle.vrd_ffi.specs.Promises.{VrdUintPromise, VrdIntPromise, VrdRangePromise}
@@ -29,12 +27,6 @@ use Rattle.vrd_ffi.specs.Promises.{VrdMakePromise, VrdXoshiroWithSeedPro
 use Rattle.vrd_ffi.specs.Promises.{VrdPcg32WithSeedPromise, VrdPcg64WithSeedPromise}
 use Rattle.vrd_ffi.specs.Promises.{VrdPcg32WithStreamPromise, VrdPcg64WithStreamPromise}
 use Rattle.vrd_ffi.specs.Promises.{VrdSeedPromise, VrdTwistPromise, VrdSetMtiPromise, VrdMtiPromise, VrdSplitPromise, VrdSamePromise}
-
-pub one-engine-in : (s : List ℕ) {a b : Engine} → EngineInPromise s a → EngineInPromise s b → a ≡ b
-one-engine-in s p q = p ∙ sym q
-
-pub one-write : (e : Engine) (s : List ℕ) {s₁ s₂ : List ℕ} → WritePromise e s s₁ → WritePromise e s s₂ → s₁ ≡ s₂
-one-write e s p q = p ∙ sym q
 
 -- ---- calls over a state and a table
 

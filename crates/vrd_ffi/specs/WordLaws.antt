@@ -20,12 +20,12 @@ use Rattle.random.specs.declared.backend.Random.{Random}
 use Rattle.float_draws.specs.Coins.{flipFrom}
 use Rattle.float_draws.specs.Spreads.{spreadFrom}
 use Rattle.float_draws.specs.Units.{floatFrom, doubleFrom}
-use Rattle.vrd_ffi.specs.Answers.{Told, told, Reply, formed, written, atBoundary}
-use Rattle.vrd_ffi.specs.AnswersLaws.{known-kind, kept}
+use Rattle.lent_state.specs.Answers.{Told, told, Reply, formed, written, atBoundary}
+use Rattle.lent_state.specs.AnswersLaws.{known-kind, kept}
 use Rattle.vrd_ffi.specs.Handed.{word, signedWord, number32, number64, coin, zero32, zero64, uniformNumber}
 use Rattle.vrd_ffi.specs.Handed.{wordOf32, wordOf64, signedOf64, floatOf, doubleOf, coinOf, spreadOf}
 use Rattle.vrd_ffi.specs.Moves.{drew32, drew64, Moves32, Moves64}
-use Rattle.vrd_ffi.specs.State.{kindIn, backendIn, generatorIn}
+use Rattle.lent_state.specs.State.{kindIn, backendIn, generatorIn}
 
 module _ (s t : List ℕ) (k : kindIn s ≤ 3) {w : ℕ} {s′ u : List ℕ} where
   -- a word drawn in place, handed out in some form

@@ -2,9 +2,9 @@
 // stand first, and `used` with `refusal` in one word of 8 bytes: an answer is handed on by whole registers.
 ghost use mathlib.Core.Path.{_≡_};
 ghost use Rattle.vrd_ffi.specs.Handed.{number};
-ghost use Rattle.vrd_ffi.specs.State.{stateAfter};
-use crate::writing::settle;
+ghost use Rattle.lent_state.specs.State.{stateAfter};
 use bounded::EngineAnswer;
+use lent_state::settle;
 
 // A word of 32 or 64 bits, or a position.
 #[repr(C)]

@@ -3,7 +3,7 @@ ghost use Rattle.vrd_ffi.specs.Promises.{VrdShufflePromise, VrdFillBytes
 use crate::answers::Number;
 use crate::answers::number_from;
 use crate::state::engine_in;
-use crate::writing::write;
+use lent_state::write;
 use words::refusal;
 
 // The list in an order drawn at random.

@@ -11,7 +11,7 @@ use crate::drawing::drawn_from;
 use crate::drawing::number_of;
 use crate::first_word::MISS;
 use crate::state::engine_in;
-use crate::writing::settle;
+use lent_state::settle;
 use words::refusal;
 
 // The most entries that a list may have.

@@ -8,7 +8,7 @@ use crate::answers::Number;
 use crate::first_word::MISS;
 use crate::first_word::quick;
 use crate::state::engine_in;
-use crate::writing::settle;
+use lent_state::settle;
 use words::refusal;
 
 // The library's answer in one number, `least` added to its value.

@@ -1,12 +1,12 @@
 // The first word of a draw below r, which settles nearly every draw: where it is ready and surely good the generator moves by it. One
 // ladder over the kinds, no division, and the answer is one number in a register. Whatever is seldom is left to the library's call.
 ghost use Rattle.vrd_ffi.specs.Moves.{Quick, Settles};
-use crate::state::pcg32_in;
-use crate::state::pcg64_in;
-use crate::state::position;
-use crate::state::xoshiro_in;
-use crate::writing::put_position;
-use crate::writing::put_small;
+use lent_state::pcg32_in;
+use lent_state::pcg64_in;
+use lent_state::position;
+use lent_state::put_position;
+use lent_state::put_small;
+use lent_state::xoshiro_in;
 use mersenne_twister::END;
 
 // No word settles the draw at once.

@@ -8,7 +8,7 @@ use crate::drawing::drawn_from;
 use crate::drawing::number_of;
 use crate::first_word::MISS;
 use crate::state::engine_in;
-use crate::writing::settle;
+use lent_state::settle;
 use spans::IntEngineAnswer;
 use words::refusal;
 

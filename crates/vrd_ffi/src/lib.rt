@@ -16,8 +16,3 @@ mod state;
 mod state_calls;
 mod uint_calls;
 mod word_calls;
-mod writing;
-
-pub use answers::Word;
-pub use state::engine_in;
-pub use writing::write;

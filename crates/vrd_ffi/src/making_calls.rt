@@ -3,7 +3,7 @@
 ghost use Rattle.vrd_ffi.specs.Promises.{VrdMakePromise, VrdXoshiroWithSeedPromise, VrdMersenneTwisterWithSeedPromise};
 ghost use Rattle.vrd_ffi.specs.Promises.{VrdPcg32WithSeedPromise, VrdPcg64WithSeedPromise};
 ghost use Rattle.vrd_ffi.specs.Promises.{VrdPcg32WithStreamPromise, VrdPcg64WithStreamPromise};
-use crate::writing::begin;
+use lent_state::begin;
 use random::engine_of;
 use words::refusal;
 use wrapping::Wide;

@@ -2,13 +2,13 @@
 // after they were written, they would hold up every call.
 ghost use Prim.Native.Nat.{_≤_};
 ghost use Rattle.vrd_ffi.specs.Moves.{Moves32, Moves64, MovesWide, IsWide};
-ghost use Rattle.vrd_ffi.specs.State.{kindIn};
-use crate::state::pcg32_in;
-use crate::state::pcg64_in;
-use crate::state::position;
-use crate::state::xoshiro_in;
-use crate::writing::put_position;
-use crate::writing::put_small;
+ghost use Rattle.lent_state.specs.State.{kindIn};
+use lent_state::pcg32_in;
+use lent_state::pcg64_in;
+use lent_state::position;
+use lent_state::put_position;
+use lent_state::put_small;
+use lent_state::xoshiro_in;
 
 // The next word of kinds 0 and 3, of 64 bits.
 fn move_wide(state: &mut [u64; 6]) -> u64

@@ -5,7 +5,7 @@ use crate::answers::number_apart;
 use crate::drawing::drawn_from;
 use crate::drawing::number_of;
 use crate::state::engine_in;
-use crate::writing::settle;
+use lent_state::settle;
 use words::refusal;
 
 // The call by the library: a list or a window that it refuses.

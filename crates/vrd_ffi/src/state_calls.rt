@@ -4,8 +4,8 @@ ghost use Rattle.vrd_ffi.specs.Promises.{VrdSamePromise};
 use crate::answers::Equality;
 use crate::answers::Word;
 use crate::state::engine_in;
-use crate::writing::begin;
-use crate::writing::write;
+use lent_state::begin;
+use lent_state::write;
 use words::refusal;
 
 // The kind is kept, and its state set anew. The answer is the refusal.

@@ -5,7 +5,7 @@ use crate::answers::Word;
 use crate::moves::move_u32;
 use crate::moves::move_u64;
 use crate::state::engine_in;
-use crate::writing::write;
+use lent_state::write;
 use words::refusal;
 
 // The next word.

@@ -1,7 +1,7 @@
 -- `bench_draws_in` meets its contract: an unknown kind, and the row.
 use borrow.Author.Needs.{needs}
 use mathlib.Core.Path.{ap}
-use Rattle.vrd_ffi.specs.AnswersLaws.{unknown-kind, wrote}
+use Rattle.lent_state.specs.AnswersLaws.{unknown-kind, wrote}
 use Rattle.bench_lent.specs.Rows.{sumsOf}
 use Rattle.bench_lent.proofs.lent_loops.bench_draws_in.Statement.{statement}
 use Rattle.bench_lent.proofs.lent_loops.bench_draws_in.Tie as tie
@@ -12,8 +12,8 @@ element-copy-out-if1 c = search needs
 returns : tie.Need-returns
 returns c = unknown-kind _ _ _ _ (c .if1 .taken)
 
-engine-in-requires : tie.Need-engine-in-requires
-engine-in-requires c κs = search needs
+held-in-requires : tie.Need-held-in-requires
+held-in-requires c κs = search needs
 
 draws-row-requires : tie.Need-draws-row-requires
 draws-row-requires c κs = search needs
@@ -25,7 +25,7 @@ returns-2 : tie.Need-returns-2
 returns-2 c =
     let call = c .before .before .before in
     let came = call .before .before in
-    let row = rw (came .engine-in .ensures) at (call .draws-row .ensures) in
+    let row = rw (came .held-in .ensures) at (call .draws-row .ensures) in
     wrote _ _ _ _ (came .before .before .if1 .left) _ _ _ _ (c .write .ensures) (ap sumsOf row)
 
 pub bench-draws-in-spec : {M : Type 1} → statement M
@@ -34,7 +34,7 @@ bench-draws-in-spec =
     (tie.spec
     element-copy-out-if1
     returns
-    engine-in-requires
+    held-in-requires
     draws-row-requires
     write-requires
     returns-2)

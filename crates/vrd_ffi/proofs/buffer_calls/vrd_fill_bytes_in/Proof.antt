@@ -1,6 +1,6 @@
 -- `vrd_fill_bytes_in` meets its contract: an unknown kind, and the library's filling.
 use borrow.Author.Needs.{needs}
-use Rattle.vrd_ffi.specs.AnswersLaws.{unknown-kind}
+use Rattle.lent_state.specs.AnswersLaws.{unknown-kind}
 use Rattle.vrd_ffi.specs.CallLaws.{bytes-filled}
 use Rattle.vrd_ffi.proofs.buffer_calls.vrd_fill_bytes_in.Statement.{statement}
 use Rattle.vrd_ffi.proofs.buffer_calls.vrd_fill_bytes_in.Tie as tie

@@ -1,6 +1,6 @@
 -- `vrd_shuffle_in` meets its contract: an unknown kind, and the library's answer.
 use borrow.Author.Needs.{needs}
-use Rattle.vrd_ffi.specs.AnswersLaws.{unknown-kind}
+use Rattle.lent_state.specs.AnswersLaws.{unknown-kind}
 use Rattle.vrd_ffi.specs.CallLaws.{list-shuffled}
 use Rattle.vrd_ffi.proofs.buffer_calls.vrd_shuffle_in.Statement.{statement}
 use Rattle.vrd_ffi.proofs.buffer_calls.vrd_shuffle_in.Tie as tie

@@ -1,7 +1,7 @@
 -- `choose_by_library` meets its contract: an unknown kind, and the library's answer.
 use borrow.Author.Needs.{needs}
 use mathlib.Core.Path.{ap}
-use Rattle.vrd_ffi.specs.AnswersLaws.{unknown-kind, settled}
+use Rattle.lent_state.specs.AnswersLaws.{unknown-kind, settled}
 use Rattle.vrd_ffi.specs.Handed.{choiceOf}
 use Rattle.vrd_ffi.proofs.choose_calls.choose_by_library.Statement.{statement}
 use Rattle.vrd_ffi.proofs.choose_calls.choose_by_library.Tie as tie

@@ -1,7 +1,7 @@
 -- `steps_in` meets its contract, kind by kind.
 use borrow.Author.Needs.{needs}
 use Rattle.vrd_ffi.specs.MovesLaws.{one-word}
-use Rattle.vrd_ffi.specs.State.{backendIn}
+use Rattle.lent_state.specs.State.{backendIn}
 use Rattle.vrd_ffi.proofs.float_calls.steps_in.Statement.{statement}
 use Rattle.vrd_ffi.proofs.float_calls.steps_in.Tie as tie
 

@@ -1,7 +1,7 @@
 -- `vrd_bool_in` meets its contract: an unknown kind, a coin, and no chance.
 use borrow.Author.Needs.{needs}
 use mathlib.Core.Path.{sym, _∙_}
-use Rattle.vrd_ffi.specs.AnswersLaws.{unknown-kind}
+use Rattle.lent_state.specs.AnswersLaws.{unknown-kind}
 use Rattle.vrd_ffi.specs.WordLaws.{coin-moved, coin-refused}
 use Rattle.vrd_ffi.proofs.float_calls.vrd_bool_in.Statement.{statement}
 use Rattle.vrd_ffi.proofs.float_calls.vrd_bool_in.Tie as tie

@@ -1,6 +1,6 @@
 -- `vrd_float_in` meets its contract: an unknown kind, and the float of the next word.
 use borrow.Author.Needs.{needs}
-use Rattle.vrd_ffi.specs.AnswersLaws.{unknown-kind}
+use Rattle.lent_state.specs.AnswersLaws.{unknown-kind}
 use Rattle.vrd_ffi.specs.WordLaws.{float-moved}
 use Rattle.vrd_ffi.proofs.float_calls.vrd_float_in.Statement.{statement}
 use Rattle.vrd_ffi.proofs.float_calls.vrd_float_in.Tie as tie

@@ -1,7 +1,7 @@
 -- `vrd_uniform_in` meets its contract: an unknown kind, a refused interval, and a number.
 use borrow.Author.Needs.{needs}
 use mathlib.Core.Path.{sym, _∙_}
-use Rattle.vrd_ffi.specs.AnswersLaws.{unknown-kind}
+use Rattle.lent_state.specs.AnswersLaws.{unknown-kind}
 use Rattle.vrd_ffi.specs.WordLaws.{spread-moved, spread-refused}
 use Rattle.vrd_ffi.proofs.float_calls.vrd_uniform_in.Statement.{statement}
 use Rattle.vrd_ffi.proofs.float_calls.vrd_uniform_in.Tie as tie

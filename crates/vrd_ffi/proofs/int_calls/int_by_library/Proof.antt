@@ -2,7 +2,7 @@
 use borrow.Author.Needs.{needs}
 use mathlib.Core.Path.{ap}
 use Rattle.signed.specs.Callers.{arg-read}
-use Rattle.vrd_ffi.specs.AnswersLaws.{unknown-kind, settled}
+use Rattle.lent_state.specs.AnswersLaws.{unknown-kind, settled}
 use Rattle.vrd_ffi.specs.Handed.{integerOf}
 use Rattle.vrd_ffi.proofs.int_calls.int_by_library.Statement.{statement}
 use Rattle.vrd_ffi.proofs.int_calls.int_by_library.Tie as tie

@@ -1,7 +1,7 @@
 -- `rand_slice_by_library` meets its contract: an unknown kind, and the library's answer.
 use borrow.Author.Needs.{needs}
 use mathlib.Core.Path.{ap}
-use Rattle.vrd_ffi.specs.AnswersLaws.{unknown-kind, settled}
+use Rattle.lent_state.specs.AnswersLaws.{unknown-kind, settled}
 use Rattle.vrd_ffi.specs.Handed.{startOf}
 use Rattle.vrd_ffi.proofs.slice_calls.rand_slice_by_library.Statement.{statement}
 use Rattle.vrd_ffi.proofs.slice_calls.rand_slice_by_library.Tie as tie

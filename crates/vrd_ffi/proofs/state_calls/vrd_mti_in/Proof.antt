@@ -1,6 +1,6 @@
 -- `vrd_mti_in` meets its contract: an unknown kind, and the library's position.
 use borrow.Author.Needs.{needs}
-use Rattle.vrd_ffi.specs.AnswersLaws.{of-known, of-unknown}
+use Rattle.lent_state.specs.AnswersLaws.{of-known, of-unknown}
 use Rattle.vrd_ffi.proofs.state_calls.vrd_mti_in.Statement.{statement}
 use Rattle.vrd_ffi.proofs.state_calls.vrd_mti_in.Tie as tie
 

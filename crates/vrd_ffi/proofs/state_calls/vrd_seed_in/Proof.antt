@@ -2,8 +2,8 @@
 use borrow.Author.Needs.{needs}
 use mathlib.Core.Path.{ap}
 use Rattle.random.specs.declared.backend.Random.{Random}
-use Rattle.vrd_ffi.specs.Answers.{gives}
-use Rattle.vrd_ffi.specs.AnswersLaws.{unknown-kind, wrote}
+use Rattle.lent_state.specs.Answers.{gives}
+use Rattle.lent_state.specs.AnswersLaws.{unknown-kind, wrote}
 use Rattle.vrd_ffi.proofs.state_calls.vrd_seed_in.Statement.{statement}
 use Rattle.vrd_ffi.proofs.state_calls.vrd_seed_in.Tie as tie
 

@@ -3,8 +3,8 @@ use borrow.Author.Needs.{needs}
 use mathlib.Core.Path.{ap}
 use Rattle.random.specs.Lent.{joinedWith}
 use Rattle.random.specs.declared.engine.Engine.{Engine}
-use Rattle.vrd_ffi.specs.Answers.{gives}
-use Rattle.vrd_ffi.specs.AnswersLaws.{unknown-kind, wrote}
+use Rattle.lent_state.specs.Answers.{gives}
+use Rattle.lent_state.specs.AnswersLaws.{unknown-kind, wrote}
 use Rattle.vrd_ffi.proofs.state_calls.vrd_set_mti_in.Statement.{statement}
 use Rattle.vrd_ffi.proofs.state_calls.vrd_set_mti_in.Tie as tie
 

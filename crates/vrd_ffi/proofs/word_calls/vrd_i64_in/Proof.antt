@@ -2,7 +2,7 @@
 use borrow.Author.Needs.{needs}
 use mir.Syntax.{w64}
 use Rattle.signed.specs.Callers.{result-read}
-use Rattle.vrd_ffi.specs.AnswersLaws.{unknown-kind}
+use Rattle.lent_state.specs.AnswersLaws.{unknown-kind}
 use Rattle.vrd_ffi.specs.WordLaws.{i64-moved}
 use Rattle.vrd_ffi.proofs.word_calls.vrd_i64_in.Statement.{statement}
 use Rattle.vrd_ffi.proofs.word_calls.vrd_i64_in.Tie as tie

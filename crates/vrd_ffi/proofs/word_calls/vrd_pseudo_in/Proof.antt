@@ -1,7 +1,7 @@
 -- `vrd_pseudo_in` meets its contract: an unknown kind, and the library's word.
 use borrow.Author.Needs.{needs}
 use mathlib.Core.Path.{ap}
-use Rattle.vrd_ffi.specs.AnswersLaws.{unknown-kind, wrote}
+use Rattle.lent_state.specs.AnswersLaws.{unknown-kind, wrote}
 use Rattle.vrd_ffi.specs.Handed.{wordOf32}
 use Rattle.vrd_ffi.proofs.word_calls.vrd_pseudo_in.Statement.{statement}
 use Rattle.vrd_ffi.proofs.word_calls.vrd_pseudo_in.Tie as tie

@@ -1,6 +1,6 @@
 -- `vrd_rand_in` meets its contract: an unknown kind, and the word.
 use borrow.Author.Needs.{needs}
-use Rattle.vrd_ffi.specs.AnswersLaws.{unknown-kind}
+use Rattle.lent_state.specs.AnswersLaws.{unknown-kind}
 use Rattle.vrd_ffi.specs.WordLaws.{rand-moved}
 use Rattle.vrd_ffi.proofs.word_calls.vrd_rand_in.Statement.{statement}
 use Rattle.vrd_ffi.proofs.word_calls.vrd_rand_in.Tie as tie

@@ -1,6 +1,6 @@
 -- `vrd_u64_in` meets its contract: an unknown kind, and the word.
 use borrow.Author.Needs.{needs}
-use Rattle.vrd_ffi.specs.AnswersLaws.{unknown-kind}
+use Rattle.lent_state.specs.AnswersLaws.{unknown-kind}
 use Rattle.vrd_ffi.specs.WordLaws.{u64-moved}
 use Rattle.vrd_ffi.proofs.word_calls.vrd_u64_in.Statement.{statement}
 use Rattle.vrd_ffi.proofs.word_calls.vrd_u64_in.Tie as tie

@@ -1,8 +1,8 @@
 -- `write` meets its contract, kind by kind.
 use borrow.Author.Needs.{needs}
-use Rattle.vrd_ffi.specs.State.{stateWith}
-use Rattle.vrd_ffi.proofs.writing.write.Statement.{statement}
-use Rattle.vrd_ffi.proofs.writing.write.Tie as tie
+use Rattle.lent_state.specs.State.{stateWith}
+use Rattle.lent_state.proofs.writing.write.Statement.{statement}
+use Rattle.lent_state.proofs.writing.write.Tie as tie
 
 cast-mti : tie.Need-cast-mti
 cast-mti c = search needs

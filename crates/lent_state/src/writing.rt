@@ -1,22 +1,21 @@
 // A generator written to a state. What its kind does not use stays as it came: the position too, of which the twister alone has use. The
 // array is written whole, since the prover can't read single stores back; the compiler leaves out the words that stay.
-ghost use mathlib.Core.Path.{_≡_};
-ghost use Rattle.vrd_ffi.specs.Promises.{WritePromise};
-ghost use Rattle.vrd_ffi.specs.State.{smallState, positionState, stateAfter, stateOf};
+ghost use Rattle.lent_state.specs.Promises.{PutSmallPromise, PutPositionPromise, WritePromise};
+ghost use Rattle.lent_state.specs.Promises.{LentSettlePromise, LentBeginPromise};
 use random::Backend;
 use random::Engine;
 use words::refusal;
 
 // Other small words.
-pub(crate) fn put_small(a: u64, b: u64, c: u64, d: u64, state: &mut [u64; 6])
-    ensures { λ _. ⌜ now (state .exit) ≡ smallState (now (state .entry)) a b c d ⌝ }
+pub fn put_small(a: u64, b: u64, c: u64, d: u64, state: &mut [u64; 6])
+    ensures { λ _. ⌜ PutSmallPromise (now (state .entry)) a b c d (now (state .exit)) ⌝ }
 {
     *state = [state[0], state[1], a, b, c, d];
 }
 
 // Another position.
-pub(crate) fn put_position(mti: u32, state: &mut [u64; 6])
-    ensures { λ _. ⌜ now (state .exit) ≡ positionState (now (state .entry)) mti ⌝ }
+pub fn put_position(mti: u32, state: &mut [u64; 6])
+    ensures { λ _. ⌜ PutPositionPromise (now (state .entry)) mti (now (state .exit)) ⌝ }
 {
     *state = [state[0], mti as u64, state[2], state[3], state[4], state[5]];
 }
@@ -51,8 +50,8 @@ pub fn write(e: Engine, state: &mut [u64; 6])
 }
 
 // An engine where the call is answered; where it is refused nothing changes.
-pub(crate) fn settle(refused: u32, e: Engine, state: &mut [u64; 6])
-    ensures { λ _. ⌜ now (state .exit) ≡ stateAfter refused e (now (state .entry)) ⌝ }
+pub fn settle(refused: u32, e: Engine, state: &mut [u64; 6])
+    ensures { λ _. ⌜ LentSettlePromise refused e (now (state .entry)) (now (state .exit)) ⌝ }
 {
     if refused != refusal::ANSWERED {
         return;
@@ -61,8 +60,8 @@ pub(crate) fn settle(refused: u32, e: Engine, state: &mut [u64; 6])
 }
 
 // An engine in a state that is made anew: what its kind does not use is zeros.
-pub(crate) fn begin(e: Engine, state: &mut [u64; 6])
-    ensures { λ _. ⌜ now (state .exit) ≡ stateOf e ⌝ }
+pub fn begin(e: Engine, state: &mut [u64; 6])
+    ensures { λ _. ⌜ LentBeginPromise e (now (state .exit)) ⌝ }
 {
     *state = [0, 0, 0, 0, 0, 0];
     write(e, state);

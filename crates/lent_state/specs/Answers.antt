@@ -8,7 +8,7 @@ use Rattle.words.specs.Refusal as refusal
 use Rattle.random.specs.Lent.{engineIn, tableIn}
 use Rattle.random.specs.declared.backend.Random.{Random}
 use Rattle.random.specs.declared.engine.Engine.{Engine}
-use Rattle.vrd_ffi.specs.State.{kindIn, generatorIn, stateAfter}
+use Rattle.lent_state.specs.State.{kindIn, generatorIn, stateAfter}
 
 -- an answer, with the state and the table after the call
 pub record Told (A : Type 0) : Type 0 where

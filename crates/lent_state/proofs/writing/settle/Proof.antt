@@ -1,9 +1,9 @@
 -- `settle` meets its contract: refused, and answered.
 use borrow.Author.Needs.{needs}
 use borrow.Author.Tests.{eq-eqb, ne-eqb}
-use Rattle.vrd_ffi.specs.State.{stateAfter}
-use Rattle.vrd_ffi.proofs.writing.settle.Statement.{statement}
-use Rattle.vrd_ffi.proofs.writing.settle.Tie as tie
+use Rattle.lent_state.specs.State.{stateAfter}
+use Rattle.lent_state.proofs.writing.settle.Statement.{statement}
+use Rattle.lent_state.proofs.writing.settle.Tie as tie
 
 returns : tie.Need-returns
 unfolding stateAfter

@@ -10,8 +10,8 @@ use Rattle.words.specs.Refusal as refusal
 use Rattle.random.specs.Lent.{joinedWith}
 use Rattle.random.specs.declared.backend.Random.{Random}
 use Rattle.random.specs.declared.engine.Engine.{Engine}
-use Rattle.vrd_ffi.specs.State.{kindIn, engineFrom, generatorIn, stateWith, stateAfter}
-use Rattle.vrd_ffi.specs.Answers.{Told, told, Reply, reply, gives, formed, ofKnown, written, atBoundary}
+use Rattle.lent_state.specs.State.{kindIn, engineFrom, generatorIn, stateWith, stateAfter}
+use Rattle.lent_state.specs.Answers.{Told, told, Reply, reply, gives, formed, ofKnown, written, atBoundary}
 
 pub told-apart : {A : Type 0} {a b : A} {s s′ t t′ : List ℕ} → told a s t ≡ told b s′ t′ → (a ≡ b) × (s ≡ s′) × (t ≡ t′)
 told-apart {A} h = (ap (λ (x : Told A). x .answer) h, ap (λ (x : Told A). x .state) h, ap (λ (x : Told A). x .table) h)

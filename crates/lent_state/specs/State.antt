@@ -3,7 +3,7 @@
 use Prim.Native.Nat.{ℕ, _%_, _^_}
 use mathlib.Core.Bool.{cond}
 use mathlib.Core.List.{List, [], _∷_}
-use lib.Dec.{eqb}
+use lib.Dec.{eqb, leb}
 use lib.ListN.{getD}
 use Rattle.words.specs.Refusal as refusal
 use Rattle.pcg.specs.Pcg32 as pcg32
@@ -17,6 +17,7 @@ use Rattle.random.specs.declared.backend.Backend.{Backend}
 use Rattle.random.specs.declared.backend.Backend.the-variants.{Xoshiro256PlusPlus, MersenneTwister, Pcg32, Pcg64}
 use Rattle.random.specs.declared.backend.Random.{Random}
 use Rattle.random.specs.declared.engine.Engine.{Engine}
+use Rattle.lent_state.specs.declared.reading.Held.{Held}
 
 -- ---- what a state says
 
@@ -40,15 +41,25 @@ pcg32In s = pcg32.parts (getD s 2 0) (getD s 3 0)
 abbrev pub pcg64In : List ℕ → pcg64-type.Pcg64
 pcg64In s = pcg64.parts (record { high = getD s 2 0; low = getD s 3 0 }) (record { high = getD s 4 0; low = getD s 5 0 })
 
--- the kind with its words; kinds above 3 are not asked for
+-- the kind with its words; of a kind above 3 that of a refused making, kind 0 with four zero words (document 01)
 unfoldable pub backendIn : List ℕ → Backend
 backendIn s =
     cond (eqb (getD s 0 0) 0) (Xoshiro256PlusPlus (xoshiroIn s))
-    (cond (eqb (getD s 0 0) 1) MersenneTwister (cond (eqb (getD s 0 0) 2) (Pcg32 (pcg32In s)) (Pcg64 (pcg64In s))))
+    (cond (eqb (getD s 0 0) 1) MersenneTwister
+    (cond (eqb (getD s 0 0) 2) (Pcg32 (pcg32In s))
+    (cond (eqb (getD s 0 0) 3) (Pcg64 (pcg64In s)) (Xoshiro256PlusPlus (xoshiro.parts 0 0 0 0)))))
 
 -- all of a generator but its table
 abbrev pub engineFrom : List ℕ → Engine
 engineFrom s = engineWith (backendIn s) (positionIn s)
+
+-- a kind above 3 is refused with 10
+unfoldable pub kindRefusal : ℕ → ℕ
+kindRefusal kind = cond (leb kind 3) refusal.answered refusal.kind
+
+-- the engine, and whether its kind is known
+abbrev pub heldIn : List ℕ → Held
+heldIn s = record { refusal = kindRefusal (getD s 0 0); engine = engineFrom s }
 
 -- THE GENERATOR that was lent: of a state and a table
 abbrev pub generatorIn : List ℕ → List ℕ → Random
