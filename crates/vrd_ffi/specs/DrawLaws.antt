@@ -41,7 +41,7 @@ use Rattle.lent_state.specs.AnswersLaws.{same-reply, told-formed, refused-keeps
 use Rattle.vrd_ffi.specs.Choosing.{entryOf}
 use Rattle.vrd_ffi.specs.Counting.{counted, countedModulo}
 use Rattle.vrd_ffi.specs.Handed.{number, integer, choice, numberOf, integerOf, choiceOf, startOf, drawnBy, countedBy}
-use Rattle.vrd_ffi.specs.Packed.{unpacked, Draws, Below}
+use Rattle.vrd_ffi.specs.Packed.{unpacked, Drew, Draws, Below}
 use Rattle.lent_state.specs.State.{generatorIn}
 
 -- nothing added changes nothing
@@ -69,31 +69,31 @@ refused-draw-keeps {call} d s t budget h =
 abbrev one : (r budget least : ℕ) → Words → Outcome
 one r budget least w = raised least (boundedBy w r budget)
 
-module _ (s t : List ℕ) (budget p : ℕ) {s′ u : List ℕ} where
+module _ (s t : List ℕ) (budget : ℕ) {a : Number} {s′ u : List ℕ} where
   -- a call that replies as it does
-  drawn-as : (r least : ℕ) → Draws s t r budget least p s′ u → (by : Words → Outcome)
+  drawn-as : (r least : ℕ) → Drew s t r budget least a s′ u → (by : Words → Outcome)
       → one r budget least (wordsOf (generatorIn s t)) ≡ by (wordsOf (generatorIn s t))
-      → told (unpacked p) s′ u ≡ atBoundary s t (number 0 0 refusal.kind) (drawnBy by)
+      → told a s′ u ≡ atBoundary s t (number 0 0 refusal.kind) (drawnBy by)
   drawn-as r least d by e =
       d ∙ same-reply s t (number 0 0 refusal.kind) (drawnBy (one r budget least)) (drawnBy by)
       (ap (λ (o : Outcome). numberOf (library.answerFrom (generatorIn s t) o)) e)
 
-  pub bounded-drawn : (r : ℕ) → Draws s t r budget 0 p s′ u
-      → told (unpacked p) s′ u ≡ atBoundary s t (number 0 0 refusal.kind) (drawnBy (λ w. boundedBy w r budget))
+  pub bounded-drawn : (r : ℕ) → Drew s t r budget 0 a s′ u
+      → told a s′ u ≡ atBoundary s t (number 0 0 refusal.kind) (drawnBy (λ w. boundedBy w r budget))
   bounded-drawn r d = drawn-as r 0 d (λ w. boundedBy w r budget) (raised-zero (boundedBy (wordsOf (generatorIn s t)) r budget))
 
-  pub range-drawn-by : (min max : ℕ) → min < max → Draws s t (max - min) budget min p s′ u
-      → told (unpacked p) s′ u ≡ atBoundary s t (number 0 0 refusal.kind) (drawnBy (λ w. rangeBy w min max budget))
+  pub range-drawn-by : (min max : ℕ) → min < max → Drew s t (max - min) budget min a s′ u
+      → told a s′ u ≡ atBoundary s t (number 0 0 refusal.kind) (drawnBy (λ w. rangeBy w min max budget))
   range-drawn-by min max h d =
       drawn-as (max - min) min d (λ w. rangeBy w min max budget) (sym (range-drawn (wordsOf (generatorIn s t)) min max budget h))
 
-  pub char-drawn : Draws s t 26 budget 97 p s′ u
-      → told (unpacked p) s′ u ≡ atBoundary s t (number 0 0 refusal.kind) (drawnBy (λ w. charBy w budget))
+  pub char-drawn : Drew s t 26 budget 97 a s′ u
+      → told a s′ u ≡ atBoundary s t (number 0 0 refusal.kind) (drawnBy (λ w. charBy w budget))
   unfolding charBy
   char-drawn d = drawn-as 26 97 d (λ w. charBy w budget) refl
 
-  pub uint-drawn-by : (min max : ℕ) → min < max → Draws s t (max - min + 1) budget min p s′ u
-      → told (unpacked p) s′ u ≡ atBoundary s t (number 0 0 refusal.kind) (drawnBy (λ w. uintBy w min max budget))
+  pub uint-drawn-by : (min max : ℕ) → min < max → Drew s t (max - min + 1) budget min a s′ u
+      → told a s′ u ≡ atBoundary s t (number 0 0 refusal.kind) (drawnBy (λ w. uintBy w min max budget))
   uint-drawn-by min max h d =
       let w = wordsOf (generatorIn s t) in
       let some : 0 < max - min = omega arith in
@@ -102,8 +102,8 @@ module _ (s t : List ℕ) (budget p : ℕ) {s′ u : List ℕ} where
 
   -- ---- of a list
 
-  pub start-drawn : (n window : ℕ) → n ≤ listLimit → 0 < window → window ≤ n → Draws s t (n - window + 1) budget 0 p s′ u
-      → told (unpacked p) s′ u
+  pub start-drawn : (n window : ℕ) → n ≤ listLimit → 0 < window → window ≤ n → Drew s t (n - window + 1) budget 0 a s′ u
+      → told a s′ u
       ≡ atBoundary s t (number 0 0 refusal.kind)
       (λ g. startOf (slicing.startFrom g (slicing.startOf (slicing.sliceBy (wordsOf g) n window budget))))
   unfolding slicing.startFrom slicing.startOf slicing.sliceBy library.answerFrom
@@ -114,23 +114,25 @@ module _ (s t : List ℕ) (budget p : ℕ) {s′ u : List ℕ} where
       drawn-as (n - window + 1) 0 d (λ w. slicing.sliceBy w n window budget)
       (raised-zero (boundedBy w (n - window + 1) budget) ∙ sym passes)
 
-  pub choice-drawn : (list : List ℕ) → 0 < length list → length list ≤ listLimit → Draws s t (length list) budget 0 p s′ u
-      → (a : Number) → a ≡ unpacked p
+  pub choice-drawn : (list : List ℕ) → 0 < length list → length list ≤ listLimit → Drew s t (length list) budget 0 a s′ u
       → told (entryOf list a) s′ u
       ≡ atBoundary s t (choice 0 0 0 refusal.kind) (λ g. choiceOf (choosing.choiceFrom g (choosing.chooseBy (wordsOf g) list budget)))
   unfolding choosing.choiceFrom choosing.chooseBy choosing.entryOf choosing.placeBy workedOn library.answerFrom
-  choice-drawn list some h d a e =
+  choice-drawn list some h d =
       let g = generatorIn s t in
       let w = wordsOf g in
       let n = length list in
       let passes = unless-passed (listRefusal n) (boundedBy w n budget) (checks.list-only (checks.allowed some h)) in
       let same : one n budget 0 w ≡ choosing.placeBy w n budget = raised-zero (boundedBy w n budget) ∙ sym passes in
-      ap (λ (x : Number). told (entryOf list x) s′ u) e
-      ∙ told-formed s t (number 0 0 refusal.kind) (drawnBy (one n budget 0)) (entryOf list) d
+      told-formed s t (number 0 0 refusal.kind) (drawnBy (one n budget 0)) (entryOf list) d
       ∙ same-reply s t _ (λ g. formed (entryOf list) (drawnBy (one n budget 0) g)) _
       (ap (λ (o : Outcome). formed (entryOf list) (numberOf (library.answerFrom g o))) same)
 
--- where it is answered, the number drawn is below n
+-- a number that one word settled is below n,
+pub once-below : {n q : ℕ} {a : Number} → a ≡ number q 1 0 → q < n → a .refusal ≡ 0 → a .value < n
+once-below e h z = rw e h
+
+-- and so is any other, where it is answered
 pub number-below : (n p : ℕ) (a : Number) → a ≡ unpacked p → Below n 0 p → a .refusal ≡ 0 → a .value < n
 number-below n p a e below z = let l = below (ap (λ (x : Number). x .refusal) (sym e) ∙ z) in rw e (omega (arith, l))
 

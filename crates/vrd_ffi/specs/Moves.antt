@@ -1,8 +1,9 @@
 -- A generator moved by a word in place, and the first word where it settles a draw at once.
 use mathlib.Core.Path.{_≡_}
-use mathlib.Core.Bool.{true}
+use mathlib.Core.Bool.{Bool, true, false, cond}
 use mathlib.Core.List.{List}
 use Prim.Native.Nat.{ℕ, _≤_, _<_, _^_}
+use lib.Dec.{eqb}
 use Rattle.words.specs.Draw.{good, quotient}
 use Rattle.random.specs.Generator.{randOf, u64Of, wordOf, steps64}
 use Rattle.random.specs.declared.by_value.Word32.{Word32}
@@ -34,6 +35,15 @@ stepsIn s = steps64 (backendIn s)
 abbrev pub IsWide : List ℕ → Type 0
 IsWide s = (kindIn s ≡ 0 → ⊥) → kindIn s ≡ 3
 
+-- those whose own word has 32 bits: 1 and 2
+abbrev pub IsNarrow : List ℕ → Type 0
+IsNarrow s = (kindIn s ≡ 1 → ⊥) → kindIn s ≡ 2
+
+-- which of the two a known kind is
+abbrev pub Widths : List ℕ → Bool → Type 0
+Widths s true = IsWide s
+Widths s false = kindIn s ≤ 3 → IsNarrow s
+
 -- they don't use the table
 abbrev pub MovesWide : List ℕ → ℕ → List ℕ → Type 0
 MovesWide s word s′ = (t : List ℕ) → Moves64 s t word s′ t
@@ -54,7 +64,15 @@ pub record Hit (s t : List ℕ) (r q : ℕ) (s′ : List ℕ) : Type 0 where
   pub moved : Moves32 s t (wordOf (generatorIn s t)) s′ t
   pub settled : Settled (wordOf (generatorIn s t)) r q
 
+-- what the first word may be tried below: r, or 0, below which no word settles a draw, where the budget allows no word
+unfoldable pub belowWithin : (r budget : ℕ) → ℕ
+belowWithin r budget = cond (eqb budget 0) 0 r
+
 -- a hit, or nothing changed
 pub record Quick (s t : List ℕ) (r q : ℕ) (s′ : List ℕ) : Type 0 where
   pub hit : q < 2 ^ 32 → Hit s t r q s′
   pub miss : 2 ^ 32 ≤ q → s′ ≡ s
+
+-- the same of a kind that does not use the table
+abbrev pub QuickPcg : List ℕ → (r q : ℕ) → List ℕ → Type 0
+QuickPcg s r q s′ = (t : List ℕ) → Quick s t r q s′

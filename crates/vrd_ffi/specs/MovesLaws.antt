@@ -91,6 +91,11 @@ module _ (s t : List ℕ) (s′ : List ℕ) where
       rw (w, k)
       (ap (λ (x : Drawn64). told (x .word) (six 1 (x .next .mti) (getD s 2 0) (getD s 3 0) (getD s 4 0) (getD s 5 0)) (x .next .mt)) h)
 
+-- ---- the two widths
+
+pub known-narrow : (kind : ℕ) → (kind ≡ 0 → ⊥) → (kind ≡ 3 → ⊥) → kind ≤ 3 → (kind ≡ 1 → ⊥) → kind ≡ 2
+known-narrow kind h l k other = omega (arith, h, l, k, other)
+
 -- ---- kinds 0 and 3: `rand` is the high half of the word of 64 bits
 
 one-step : (s : List ℕ) → IsWide s → (n : ℕ) → kindIn s ≡ n → steps64 (backendIn s) ≡ 1
@@ -149,3 +154,14 @@ quick-hit {s} {t} {r} {w} {q} {s′} k m f z =
 -- and where nothing changed
 pub quick-miss : {s t : List ℕ} {r : ℕ} → Quick s t r (2 ^ 32) s
 quick-miss = record { hit = λ z. absurd (omega (arith, z)); miss = λ z. refl }
+
+-- ---- two tries, one after the other
+
+module _ {s t : List ℕ} {r q₁ q₂ : ℕ} {s₁ s₂ : List ℕ} (first : Quick s t r q₁ s₁) (none : 2 ^ 32 ≤ q₁) (second : Quick s₁ t r q₂ s₂) where
+  -- where the first settled nothing, the second was tried on the state that came,
+  pub second-tried : Quick s t r q₂ s₂
+  second-tried = rw (first .miss none) at second
+
+  -- which is there still where it settled nothing either
+  pub both-missed : 2 ^ 32 ≤ q₂ → s₂ ≡ s
+  both-missed neither = second .miss neither ∙ first .miss none

@@ -23,10 +23,14 @@ unfoldable pub packed : (refusal value used least : ℕ) → ℕ
 packed n v u least =
     cond (eqb n refusal.answered) (cond (eqb u 1) ((least + v) % 2 ^ 32) (u * 2 ^ 32 + (least + v) % 2 ^ 32)) (2 ^ 32 + n)
 
--- a draw below r, with `least` added
+-- a draw below r, with `least` added, has this answer,
+abbrev pub Drew : (s t : List ℕ) (r budget least : ℕ) → Number → List ℕ → List ℕ → Type 0
+Drew s t r budget least a s′ t′ =
+    told a s′ t′ ≡ atBoundary s t (number 0 0 refusal.kind) (drawnBy (λ w. raised least (boundedBy w r budget)))
+
+-- or the answer that a number says
 abbrev pub Draws : (s t : List ℕ) (r budget least p : ℕ) → List ℕ → List ℕ → Type 0
-Draws s t r budget least p s′ t′ =
-    told (unpacked p) s′ t′ ≡ atBoundary s t (number 0 0 refusal.kind) (drawnBy (λ w. raised least (boundedBy w r budget)))
+Draws s t r budget least p s′ t′ = Drew s t r budget least (unpacked p) s′ t′
 
 -- where it is answered, its value is below least + r
 abbrev pub Below : (r least p : ℕ) → Type 0

@@ -1,6 +1,6 @@
 -- The laws of packed answers: what each number says, what is packed of the library's answer, and the draw that the first word settles.
 use Prim.Native.Nat.{ℕ, zero, suc, _+_, _*_, _/_, _%_, _^_, _≤_, _<_}
-use native.Mathlib.Nat.{mod-eq-of-lt}
+use native.Mathlib.Nat.{zero-add, mod-eq-of-lt}
 use native.Mathlib.Omega.{arith}
 use borrow.Author.Tests.{eq-eqb, ne-eqb, eqb-true, eqb-false, lt-ltb, le-ltb}
 use lib.Dec.{eqb}
@@ -28,8 +28,8 @@ use Rattle.vrd_ffi.specs.declared.answers.Number.{Number}
 use Rattle.lent_state.specs.Answers.{Told, told, Reply, reply, written, atBoundary}
 use Rattle.lent_state.specs.AnswersLaws.{unknown-kind, known-kind, settled}
 use Rattle.vrd_ffi.specs.Handed.{number, numberOf, drawnBy}
-use Rattle.vrd_ffi.specs.Moves.{Moves32, Settled, Hit}
-use Rattle.vrd_ffi.specs.Packed.{unpacked, packed, Draws, Below}
+use Rattle.vrd_ffi.specs.Moves.{Moves32, Settled, Hit, Quick, belowWithin}
+use Rattle.vrd_ffi.specs.Packed.{unpacked, packed, Drew, Draws, Below}
 use Rattle.lent_state.specs.State.{kindIn, generatorIn, stateAfter}
 
 -- ---- what a packed number says
@@ -106,14 +106,12 @@ raised-below n r o small z =
     let answered = sym (raised-keeps n o .0) ∙ z in
     rw (raised-answered n o answered) (omega (arith, small answered))
 
--- ---- a draw by the first word, and by the library's call
+-- ---- a draw by the library's call
 
-module _ (s t : List ℕ) (r least : ℕ) (room : least + r ≤ 2 ^ 32) where
-  fits : (q : ℕ) (s′ : List ℕ) → Hit s t r q s′ → least + q < 2 ^ 32
-  fits q s′ h = omega (arith, room, h .settled .small)
-
-  pub quick-below : (q : ℕ) (s′ : List ℕ) → Hit s t r q s′ → Below r least (least + q)
-  quick-below q s′ h z = rw (says-one (least + q) (fits q s′ h)) (omega (arith, h .settled .small))
+-- what is not 0 is more
+positive : (n : ℕ) → (n ≡ 0 → ⊥) → 0 < n
+positive zero h = absurd (h refl)
+positive (suc n) h = omega arith
 
 module _ (s t : List ℕ) (r budget least : ℕ) (room : least + r ≤ 2 ^ 32) where
   pub library-draws : kindIn s ≤ 3 → (a : EngineAnswer) (u s′ : List ℕ)
@@ -145,6 +143,9 @@ module _ (s t : List ℕ) (r budget least : ℕ) (room : least + r ≤ 2 ^ 32) w
       let whole = packs least (bounded-is (wordsOf g) r budget) room (λ e. rw (sym v) (small (n ∙ e))) in
       λ z. rw (n, v, m, whole) (raised-below least r o (λ e. rw (sym v) (small (n ∙ e))) (rw (n, v, m, whole) at z))
 
+-- ---- a draw by the first word
+
+module _ (s t : List ℕ) (r budget least : ℕ) where
   -- the first word, where it settles the draw
   settles-draw : (q : ℕ) (s′ : List ℕ) → 0 < budget → Hit s t r q s′
       → raised least (boundedBy (wordsOf (generatorIn s t)) r budget) ≡ draw.gives (least + q) 1
@@ -157,11 +158,41 @@ module _ (s t : List ℕ) (r budget least : ℕ) (room : least + r ≤ 2 ^ 32) w
       let drawn : quotient r (wordsOf g 0) ≡ q = ap (quotient r) first ∙ sym (h .settled .drawn) in
       ap (raised least) (found ∙ ap (λ (v : ℕ). draw.gives v 1) drawn) ∙ raised-answered least (draw.gives q 1) refl
 
-  pub quick-draws : (q : ℕ) (s′ : List ℕ) → 0 < budget → Hit s t r q s′ → Draws s t r budget least (least + q) s′ t
+  hit-drew : (q : ℕ) (s′ : List ℕ) → 0 < budget → Hit s t r q s′ → Drew s t r budget least (number (least + q) 1 0) s′ t
   unfolding library.answerFrom randOf later stateAfter
-  quick-draws q s′ some h =
+  hit-drew q s′ some h =
       let g = generatorIn s t in
-      ap (λ (a : Number). told a s′ t) (says-one (least + q) (fits s t r least room q s′ h))
-      ∙ ap (λ (x : Told ℕ). told (number (least + q) 1 0) (x .state) (x .table)) (h .moved)
+      ap (λ (x : Told ℕ). told (number (least + q) 1 0) (x .state) (x .table)) (h .moved)
       ∙ ap (λ (o : Outcome). written s (numberOf (library.answerFrom g o))) (sym (settles-draw q s′ some h))
       ∙ known-kind s t (number 0 0 refusal.kind) (drawnBy (λ w. raised least (boundedBy w r budget))) (h .known)
+
+  -- a word that was tried and settled the draw: the budget allows a word, and so it was tried below r
+  tried-hit : {q : ℕ} {s′ : List ℕ} → Quick s t (belowWithin r budget) q s′ → q < 2 ^ 32 → (0 < budget) × Hit s t r q s′
+  unfolding belowWithin
+  tried-hit {q} {s′} tried z = go (eqb budget 0) refl (tried .hit z)
+    where
+      go : (b : Bool) → eqb budget 0 ≡ b → Hit s t (cond b 0 r) q s′ → (0 < budget) × Hit s t r q s′
+      go true e h = absurd (omega (arith, h .settled .small))
+      go false e h = let some = eqb-false budget 0 e in (positive budget some, h)
+
+  -- what it answers,
+  pub tried-drew : {q : ℕ} {s′ : List ℕ} → Quick s t (belowWithin r budget) q s′ → q < 2 ^ 32
+      → Drew s t r budget least (number (least + q) 1 0) s′ t
+  tried-drew {q} {s′} tried z = let (some, h) = tried-hit tried z in hit-drew q s′ some h
+
+  -- which is below least + r,
+  pub tried-below : {q : ℕ} {s′ : List ℕ} → Quick s t (belowWithin r budget) q s′ → q < 2 ^ 32 → q < r
+  tried-below tried z = tried-hit tried z .1 .settled .small
+
+  -- and the number that says it
+  pub tried-draws : least + r ≤ 2 ^ 32 → {q : ℕ} {s′ : List ℕ} → Quick s t (belowWithin r budget) q s′ → q < 2 ^ 32
+      → (Draws s t r budget least (least + q) s′ t) × Below r least (least + q)
+  tried-draws room {q} {s′} tried z =
+      let small = tried-below tried z in
+      let says = says-one (least + q) (omega (arith, room, small)) in
+      (ap (λ (a : Number). told a s′ t) says ∙ tried-drew tried z, λ e. rw says (omega (arith, small)))
+
+-- with nothing added
+pub tried-alone : (s t : List ℕ) (r budget : ℕ) {q : ℕ} {s′ : List ℕ} → Quick s t (belowWithin r budget) q s′ → q < 2 ^ 32
+    → Drew s t r budget 0 (number q 1 0) s′ t
+tried-alone s t r budget tried z = rw zero-add at (tried-drew s t r budget 0 tried z)

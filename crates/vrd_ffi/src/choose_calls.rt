@@ -7,9 +7,13 @@ ghost use Rattle.vrd_ffi.specs.Promises.{VrdChoosePromise, VrdListLimitP
 use crate::answers::Choice;
 use crate::answers::Number;
 use crate::answers::choice_apart;
-use crate::drawing::drawn_from;
+use crate::drawing::at_once;
+use crate::drawing::by_library;
 use crate::drawing::number_of;
 use crate::first_word::MISS;
+use crate::first_word::below_within;
+use crate::first_word::quick_first;
+use crate::first_word::quick_pcg;
 use crate::state::engine_in;
 use lent_state::settle;
 use words::refusal;
@@ -99,14 +103,15 @@ pub extern "C" fn vrd_choose_in(
     if n > lists::limit::LIST_LIMIT {
         return choice_apart(choose_by_library(state, table, list, budget));
     }
-    let p = drawn_from(state, table, n as u32, budget, 0);
-    if p < MISS {
-        let one = Number {
-            value: p,
-            used: 1,
-            refusal: refusal::ANSWERED,
-        };
-        return chosen(list, one);
+    let r = n as u32;
+    let tried = below_within(r, budget);
+    let first = quick_first(state, table, tried);
+    if first < MISS {
+        return chosen(list, at_once(first));
     }
-    chosen(list, number_of(p))
+    let second = quick_pcg(state, tried);
+    if second < MISS {
+        return chosen(list, at_once(second));
+    }
+    chosen(list, number_of(by_library(state, table, r, budget, 0)))
 }

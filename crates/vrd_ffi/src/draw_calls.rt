@@ -3,8 +3,14 @@
 ghost use Rattle.vrd_ffi.specs.Promises.{VrdBoundedPromise, VrdRandomRangePromise, VrdCharPromise};
 use crate::answers::Number;
 use crate::answers::number_from;
+use crate::drawing::at_once;
+use crate::drawing::by_library;
 use crate::drawing::drawn_from;
 use crate::drawing::number_of;
+use crate::first_word::MISS;
+use crate::first_word::below_within;
+use crate::first_word::quick_first;
+use crate::first_word::quick_pcg;
 use crate::state::engine_in;
 use words::refusal;
 
@@ -18,7 +24,16 @@ pub extern "C" fn vrd_bounded_in(
 ) -> Number
     ensures { λ a. ⌜ VrdBoundedPromise (now (state .entry)) (now (table .entry)) r budget a (now (state .exit)) (now (table .exit)) ⌝ }
 {
-    number_of(drawn_from(state, table, r, budget, 0))
+    let tried = below_within(r, budget);
+    let first = quick_first(state, table, tried);
+    if first < MISS {
+        return at_once(first);
+    }
+    let second = quick_pcg(state, tried);
+    if second < MISS {
+        return at_once(second);
+    }
+    number_of(by_library(state, table, r, budget, 0))
 }
 
 // Refused by the library.
@@ -58,7 +73,17 @@ pub extern "C" fn vrd_random_range_in(
     if max <= min {
         return random_range_by_library(state, table, min, max, budget);
     }
-    number_of(drawn_from(state, table, max - min, budget, min))
+    let r = max - min;
+    let tried = below_within(r, budget);
+    let first = quick_first(state, table, tried);
+    if first < MISS {
+        return at_once((min as u64) + first);
+    }
+    let second = quick_pcg(state, tried);
+    if second < MISS {
+        return at_once((min as u64) + second);
+    }
+    number_of(by_library(state, table, r, budget, min))
 }
 
 // A small letter's ASCII code.

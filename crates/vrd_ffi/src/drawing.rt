@@ -1,12 +1,16 @@
 // A single draw below r, with a number added to its value, its answer in one number, so that it comes back in a register
-// (specs/Packed.antt says what the number means). Every draw of one number stands on `drawn_from`: the first word settles nearly all, and
-// the rest is the library's call.
+// (specs/Packed.antt says what the number means). The first word settles nearly all draws, and the rest is the library's call. `drawn_from`
+// is both, for calls that need not have it merged into them.
 ghost use mathlib.Core.Path.{_≡_};
 ghost use Prim.Native.Nat.{_+_, _≤_, _^_};
+ghost use Rattle.vrd_ffi.specs.Handed.{number};
 ghost use Rattle.vrd_ffi.specs.Packed.{packed, unpacked, Draws, Below};
+ghost use Rattle.words.specs.Refusal as refusal;
 use crate::answers::Number;
 use crate::first_word::MISS;
-use crate::first_word::quick;
+use crate::first_word::below_within;
+use crate::first_word::quick_first;
+use crate::first_word::quick_pcg;
 use crate::state::engine_in;
 use lent_state::settle;
 use words::refusal;
@@ -52,8 +56,25 @@ pub(crate) fn number_of(p: u64) -> Number
     }
 }
 
+// The answer of a draw that one word settled.
+pub(crate) fn at_once(value: u64) -> Number
+    ensures { λ a. ⌜ a ≡ number value 1 refusal.answered ⌝ }
+{
+    Number {
+        value,
+        used: 1,
+        refusal: refusal::ANSWERED,
+    }
+}
+
 // The draw by the library.
-fn by_library(state: &mut [u64; 6], table: &mut [u32; 624], r: u32, budget: u32, least: u32) -> u64
+pub(crate) fn by_library(
+    state: &mut [u64; 6],
+    table: &mut [u32; 624],
+    r: u32,
+    budget: u32,
+    least: u32,
+) -> u64
     requires { ⌜ least + r ≤ 2 ^ 32 ⌝ }
     ensures draw { λ p. ⌜ Draws (now (state .entry)) (now (table .entry)) r budget least p (now (state .exit)) (now (table .exit)) ⌝ }
     ensures small { λ p. ⌜ Below r least p ⌝ }
@@ -67,7 +88,7 @@ fn by_library(state: &mut [u64; 6], table: &mut [u32; 624], r: u32, budget: u32,
     pack(a.refusal, a.value, a.used, least)
 }
 
-// The draw below r, `least` added. The call stands twice, so that it is not merged into the common way.
+// The draw below r, `least` added.
 pub(crate) fn drawn_from(
     state: &mut [u64; 6],
     table: &mut [u32; 624],
@@ -79,12 +100,14 @@ pub(crate) fn drawn_from(
     ensures draw { λ p. ⌜ Draws (now (state .entry)) (now (table .entry)) r budget least p (now (state .exit)) (now (table .exit)) ⌝ }
     ensures small { λ p. ⌜ Below r least p ⌝ }
 {
-    if budget == 0 {
-        return by_library(state, table, r, budget, least);
+    let tried = below_within(r, budget);
+    let first = quick_first(state, table, tried);
+    if first < MISS {
+        return (least as u64) + first;
     }
-    let q = quick(state, table, r);
-    if q < MISS {
-        return (least as u64) + q;
+    let second = quick_pcg(state, tried);
+    if second < MISS {
+        return (least as u64) + second;
     }
     by_library(state, table, r, budget, least)
 }

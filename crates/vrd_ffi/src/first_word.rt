@@ -1,6 +1,8 @@
-// The first word of a draw below r, which settles nearly every draw: where it is ready and surely good the generator moves by it. One
-// ladder over the kinds, no division, and the answer is one number in a register. Whatever is seldom is left to the library's call.
-ghost use Rattle.vrd_ffi.specs.Moves.{Quick, Settles};
+// The first word of a draw below r, which settles nearly every draw: where it is ready and surely good the generator moves by it. There is
+// no division, and the answer is one number in a register. Whatever is seldom is left to the library's call. The kinds are tried two and
+// two: functions of this size are merged into every call that tries them, and one over all four kinds would not be.
+ghost use mathlib.Core.Path.{_≡_};
+ghost use Rattle.vrd_ffi.specs.Moves.{Quick, QuickPcg, Settles, belowWithin};
 use lent_state::pcg32_in;
 use lent_state::pcg64_in;
 use lent_state::position;
@@ -23,8 +25,18 @@ fn settled_by(word: u32, r: u32) -> u64
     MISS
 }
 
-// The number drawn, and the generator moves; or MISS, and nothing changes.
-pub(crate) fn quick(state: &mut [u64; 6], table: &[u32; 624], r: u32) -> u64
+// What the first word may be tried below: r, or 0, below which no word settles a draw, where the budget allows no word.
+pub(crate) fn below_within(r: u32, budget: u32) -> u32
+    ensures { λ b. ⌜ b ≡ belowWithin r budget ⌝ }
+{
+    if budget == 0 {
+        return 0;
+    }
+    r
+}
+
+// The number drawn from a generator of kind 0 or 1, which moves; or MISS, and nothing changes.
+pub(crate) fn quick_first(state: &mut [u64; 6], table: &[u32; 624], r: u32) -> u64
     ensures { λ q. ⌜ Quick (now (state .entry)) (now (table .entry)) r q (now (state .exit)) ⌝ }
 {
     let kind = state[0];
@@ -47,8 +59,15 @@ pub(crate) fn quick(state: &mut [u64; 6], table: &[u32; 624], r: u32) -> u64
             put_position(mti + 1, state);
             return q;
         }
-        return MISS;
     }
+    MISS
+}
+
+// The same of kinds 2 and 3.
+pub(crate) fn quick_pcg(state: &mut [u64; 6], r: u32) -> u64
+    ensures { λ q. ⌜ QuickPcg (now (state .entry)) r q (now (state .exit)) ⌝ }
+{
+    let kind = state[0];
     if kind == 2 {
         let d = pcg32_in(state).next_u32();
         let q = settled_by(d.word, r);

@@ -6,8 +6,10 @@ ghost use Rattle.vrd_ffi.specs.Promises.{VrdFloatPromise, VrdDoublePromi
 use crate::answers::Coin;
 use crate::answers::Number32;
 use crate::answers::Number64;
-use crate::moves::move_u32;
+use crate::moves::is_wide;
+use crate::moves::move_narrow;
 use crate::moves::move_u64;
+use crate::moves::move_wide;
 use floats::Interval;
 use floats::Uniform;
 use words::refusal;
@@ -23,7 +25,15 @@ pub extern "C" fn vrd_float_in(state: &mut [u64; 6], table: &mut [u32; 624]) -> 
             refusal: refusal::KIND,
         };
     }
-    let word = move_u32(state, table);
+    if is_wide(state) {
+        let word = move_wide(state);
+        let value = floats::float_of((word >> 32) as u32);
+        return Number32 {
+            value,
+            refusal: refusal::ANSWERED,
+        };
+    }
+    let word = move_narrow(state, table);
     let value = floats::float_of(word);
     Number32 {
         value,

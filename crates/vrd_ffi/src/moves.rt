@@ -1,7 +1,8 @@
 // A generator moved by a word in place. The small words are read and written one by one and handed on as numbers: copied as a whole, just
-// after they were written, they would hold up every call.
+// after they were written, they would hold up every call. The kinds are taken two and two: functions of this size are merged into every call
+// that stands on them, and one over all four kinds would not be.
 ghost use Prim.Native.Nat.{_≤_};
-ghost use Rattle.vrd_ffi.specs.Moves.{Moves32, Moves64, MovesWide, IsWide};
+ghost use Rattle.vrd_ffi.specs.Moves.{Moves32, Moves64, MovesWide, IsWide, IsNarrow, Widths};
 ghost use Rattle.lent_state.specs.State.{kindIn};
 use lent_state::pcg32_in;
 use lent_state::pcg64_in;
@@ -10,8 +11,22 @@ use lent_state::put_position;
 use lent_state::put_small;
 use lent_state::xoshiro_in;
 
+// Whether the kind's own word has 64 bits.
+pub(crate) fn is_wide(state: &[u64; 6]) -> bool
+    ensures { λ b. ⌜ Widths (now (state .entry)) b ⌝ }
+{
+    let kind = state[0];
+    if kind == 0 {
+        return true;
+    }
+    if kind == 3 {
+        return true;
+    }
+    false
+}
+
 // The next word of kinds 0 and 3, of 64 bits.
-fn move_wide(state: &mut [u64; 6]) -> u64
+pub(crate) fn move_wide(state: &mut [u64; 6]) -> u64
     requires { ⌜ IsWide (now state) ⌝ }
     ensures { λ r. ⌜ MovesWide (now (state .entry)) r (now (state .exit)) ⌝ }
 {
@@ -32,9 +47,9 @@ fn move_wide(state: &mut [u64; 6]) -> u64
     d.word
 }
 
-// The next word of 32 bits.
-pub(crate) fn move_u32(state: &mut [u64; 6], table: &mut [u32; 624]) -> u32
-    requires { ⌜ kindIn (now state) ≤ 3 ⌝ }
+// The next word of kinds 1 and 2, of 32 bits.
+pub(crate) fn move_narrow(state: &mut [u64; 6], table: &mut [u32; 624]) -> u32
+    requires { ⌜ IsNarrow (now state) ⌝ }
     ensures { λ r. ⌜ Moves32 (now (state .entry)) (now (table .entry)) r (now (state .exit)) (now (table .exit)) ⌝ }
 {
     let kind = state[0];
@@ -43,17 +58,14 @@ pub(crate) fn move_u32(state: &mut [u64; 6], table: &mut [u32; 624]) -> u32
         put_position(d.mti, state);
         return d.word;
     }
-    if kind == 2 {
-        let d = pcg32_in(state).next_u32();
-        put_small(d.next.state, d.next.inc, state[4], state[5], state);
-        return d.word;
-    }
-    (move_wide(state) >> 32) as u32
+    let d = pcg32_in(state).next_u32();
+    put_small(d.next.state, d.next.inc, state[4], state[5], state);
+    d.word
 }
 
-// The next word of 64 bits, by the kind's own order of halves.
-pub(crate) fn move_u64(state: &mut [u64; 6], table: &mut [u32; 624]) -> u64
-    requires { ⌜ kindIn (now state) ≤ 3 ⌝ }
+// The next two words of kinds 1 and 2 as one of 64 bits, by the kind's own order of halves.
+pub(crate) fn move_two(state: &mut [u64; 6], table: &mut [u32; 624]) -> u64
+    requires { ⌜ IsNarrow (now state) ⌝ }
     ensures { λ r. ⌜ Moves64 (now (state .entry)) (now (table .entry)) r (now (state .exit)) (now (table .exit)) ⌝ }
 {
     let kind = state[0];
@@ -62,10 +74,18 @@ pub(crate) fn move_u64(state: &mut [u64; 6], table: &mut [u32; 624]) -> u64
         put_position(d.mti, state);
         return d.word;
     }
-    if kind == 2 {
-        let d = pcg32_in(state).next_u64();
-        put_small(d.next.state, d.next.inc, state[4], state[5], state);
-        return d.word;
+    let d = pcg32_in(state).next_u64();
+    put_small(d.next.state, d.next.inc, state[4], state[5], state);
+    d.word
+}
+
+// The next word of 64 bits, for calls that need not have it merged into them.
+pub(crate) fn move_u64(state: &mut [u64; 6], table: &mut [u32; 624]) -> u64
+    requires { ⌜ kindIn (now state) ≤ 3 ⌝ }
+    ensures { λ r. ⌜ Moves64 (now (state .entry)) (now (table .entry)) r (now (state .exit)) (now (table .exit)) ⌝ }
+{
+    if is_wide(state) {
+        return move_wide(state);
     }
-    move_wide(state)
+    move_two(state, table)
 }

@@ -2,8 +2,13 @@
 ghost use Rattle.vrd_ffi.specs.Promises.{VrdRandSlicePromise};
 use crate::answers::Number;
 use crate::answers::number_apart;
-use crate::drawing::drawn_from;
+use crate::drawing::at_once;
+use crate::drawing::by_library;
 use crate::drawing::number_of;
+use crate::first_word::MISS;
+use crate::first_word::below_within;
+use crate::first_word::quick_first;
+use crate::first_word::quick_pcg;
 use crate::state::engine_in;
 use lent_state::settle;
 use words::refusal;
@@ -58,5 +63,15 @@ pub extern "C" fn vrd_rand_slice_in(
     if window > n {
         return number_apart(rand_slice_by_library(state, table, list, window, budget));
     }
-    number_of(drawn_from(state, table, (n - window + 1) as u32, budget, 0))
+    let r = (n - window + 1) as u32;
+    let tried = below_within(r, budget);
+    let first = quick_first(state, table, tried);
+    if first < MISS {
+        return at_once(first);
+    }
+    let second = quick_pcg(state, tried);
+    if second < MISS {
+        return at_once(second);
+    }
+    number_of(by_library(state, table, r, budget, 0))
 }

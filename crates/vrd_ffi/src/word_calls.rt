@@ -2,8 +2,10 @@
 ghost use Rattle.vrd_ffi.specs.Promises.{VrdRandPromise, VrdU64Promise, VrdI64Promise, VrdPseudoPromise};
 use crate::answers::SignedWord;
 use crate::answers::Word;
-use crate::moves::move_u32;
-use crate::moves::move_u64;
+use crate::moves::is_wide;
+use crate::moves::move_narrow;
+use crate::moves::move_two;
+use crate::moves::move_wide;
 use crate::state::engine_in;
 use lent_state::write;
 use words::refusal;
@@ -19,7 +21,14 @@ pub extern "C" fn vrd_rand_in(state: &mut [u64; 6], table: &mut [u32; 624]) -> W
             refusal: refusal::KIND,
         };
     }
-    let word = move_u32(state, table);
+    if is_wide(state) {
+        let word = move_wide(state);
+        return Word {
+            value: word >> 32,
+            refusal: refusal::ANSWERED,
+        };
+    }
+    let word = move_narrow(state, table);
     Word {
         value: word as u64,
         refusal: refusal::ANSWERED,
@@ -37,7 +46,14 @@ pub extern "C" fn vrd_u64_in(state: &mut [u64; 6], table: &mut [u32; 624]) -> Wo
             refusal: refusal::KIND,
         };
     }
-    let value = move_u64(state, table);
+    if is_wide(state) {
+        let value = move_wide(state);
+        return Word {
+            value,
+            refusal: refusal::ANSWERED,
+        };
+    }
+    let value = move_two(state, table);
     Word {
         value,
         refusal: refusal::ANSWERED,
@@ -55,7 +71,15 @@ pub extern "C" fn vrd_i64_in(state: &mut [u64; 6], table: &mut [u32; 624]) -> Si
             refusal: refusal::KIND,
         };
     }
-    let word = move_u64(state, table);
+    if is_wide(state) {
+        let word = move_wide(state);
+        let value = signed::signed_u64(word);
+        return SignedWord {
+            value,
+            refusal: refusal::ANSWERED,
+        };
+    }
+    let word = move_two(state, table);
     let value = signed::signed_u64(word);
     SignedWord {
         value,

@@ -11,7 +11,7 @@ number-of-requires : tie.Need-number-of-requires
 number-of-requires c κs = search needs
 
 returns : tie.Need-returns
-returns c = rw (c .number-of .ensures) (char-drawn _ _ _ _ (c .before .drawn-from .ensures .0))
+returns c = rw (c .number-of .ensures) (char-drawn _ _ _ (c .before .drawn-from .ensures .0))
 
 pub vrd-char-in-spec : {M : Type 1} → statement M
 vrd-char-in-spec =

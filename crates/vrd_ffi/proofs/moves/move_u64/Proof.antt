@@ -1,68 +1,32 @@
--- `move_u64` meets its contract: the twister, Pcg32, and the kinds whose own word has 64 bits.
+-- `move_u64` meets its contract: a wide kind, and a narrow one.
 use borrow.Author.Needs.{needs}
-use Rattle.vrd_ffi.specs.MovesLaws.{twister-moved64, pcg32-moved64}
 use Rattle.vrd_ffi.proofs.moves.move_u64.Statement.{statement}
 use Rattle.vrd_ffi.proofs.moves.move_u64.Tie as tie
 
-element-copy-out-kind : tie.Need-element-copy-out-kind
-element-copy-out-kind c = search needs
-
-position-requires : tie.Need-position-requires
-position-requires c κs = search needs
-
-next-u64-in-requires : tie.Need-next-u64-in-requires
-next-u64-in-requires c κs = search needs
-
-put-position-requires : tie.Need-put-position-requires
-put-position-requires c κs = search needs
-
-returns : tie.Need-returns
-returns c =
-    let draw = c .before .before in
-    let drawn = rw (draw .before .position .ensures) at (draw .next-u64-in .ensures) in
-    twister-moved64 _ _ _ (draw .before .before .before .before .if1 .taken) _ _ drawn (c .put-position .ensures)
-
-pcg32-in-requires : tie.Need-pcg32-in-requires
-pcg32-in-requires c κs = search needs
-
-next-u64-requires : tie.Need-next-u64-requires
-next-u64-requires c κs = search needs
-
-element-copy-out-put-small : tie.Need-element-copy-out-put-small
-element-copy-out-put-small c = search needs
-
-element-copy-out-put-small-2 : tie.Need-element-copy-out-put-small-2
-element-copy-out-put-small-2 c = search needs
-
-put-small-requires : tie.Need-put-small-requires
-put-small-requires c κs = search needs
-
-returns-2 : tie.Need-returns-2
-returns-2 c =
-    let draw = c .before .before .before .before in
-    let drawn = rw (draw .before .pcg32-in .ensures) at (draw .next-u64 .ensures) in
-    pcg32-moved64 _ _ _ (draw .before .before .before .if2 .taken) _ drawn (c .put-small .ensures)
+is-wide-requires : tie.Need-is-wide-requires
+is-wide-requires c κs = search needs
 
 move-wide-requires : tie.Need-move-wide-requires
-move-wide-requires c κs = search needs
+move-wide-requires c κs = rw (c .before .if1 .taken) at (c .before .before .is-wide .ensures)
 
-returns-3 : tie.Need-returns-3
-returns-3 c = c .move-wide .ensures _
+returns : tie.Need-returns
+returns c = c .move-wide .ensures _
+
+move-two-requires : tie.Need-move-two-requires
+move-two-requires c κs =
+    let other = c .before .before in
+    let width = other .before in
+    (rw (other .if1 .left) at (width .is-wide .ensures)) (width .before .before .pre)
+
+returns-2 : tie.Need-returns-2
+returns-2 c = c .move-two .ensures
 
 pub move-u64-spec : {M : Type 1} → statement M
 move-u64-spec =
     tie.close
     (tie.spec
-    element-copy-out-kind
-    position-requires
-    next-u64-in-requires
-    put-position-requires
-    returns
-    pcg32-in-requires
-    next-u64-requires
-    element-copy-out-put-small
-    element-copy-out-put-small-2
-    put-small-requires
-    returns-2
+    is-wide-requires
     move-wide-requires
-    returns-3)
+    returns
+    move-two-requires
+    returns-2)

@@ -37,7 +37,7 @@ number-of-requires c κs = search needs
 returns-3 : tie.Need-returns-3
 returns-3 c =
     let order = c .before .before .before .before .before .if1 .left in
-    rw (c .number-of .ensures) (uint-drawn-by _ _ _ _ _ _ order (c .before .drawn-from .ensures .0))
+    rw (c .number-of .ensures) (uint-drawn-by _ _ _ _ _ order (c .before .drawn-from .ensures .0))
 
 pub vrd-uint-in-spec : {M : Type 1} → statement M
 vrd-uint-in-spec =

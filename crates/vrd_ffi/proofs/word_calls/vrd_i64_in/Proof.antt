@@ -1,4 +1,4 @@
--- `vrd_i64_in` meets its contract: an unknown kind, and the word read as signed.
+-- `vrd_i64_in` meets its contract: an unknown kind, a wide one and a narrow one, the word read as signed.
 use borrow.Author.Needs.{needs}
 use mir.Syntax.{w64}
 use Rattle.signed.specs.Callers.{result-read}
@@ -13,8 +13,11 @@ element-copy-out-if1 c = search needs
 returns : tie.Need-returns
 returns c = unknown-kind _ _ _ _ (c .if1 .taken)
 
-move-u64-requires : tie.Need-move-u64-requires
-move-u64-requires c κs = search needs
+is-wide-requires : tie.Need-is-wide-requires
+is-wide-requires c κs = search needs
+
+move-wide-requires : tie.Need-move-wide-requires
+move-wide-requires c κs = rw (c .before .if2 .taken) at (c .before .before .is-wide .ensures)
 
 signed-u64-requires : tie.Need-signed-u64-requires
 signed-u64-requires c κs = search needs
@@ -23,7 +26,24 @@ returns-2 : tie.Need-returns-2
 returns-2 c =
     let d = c .signed-u64 in
     let move = c .before in
-    rw (result-read w64 (d .result) (d .ok), d .ensures) (i64-moved _ _ (move .before .before .before .if1 .left) (move .move-u64 .ensures))
+    let known = move .before .before .before .before .before .if1 .left in
+    rw (result-read w64 (d .result) (d .ok), d .ensures) (i64-moved _ _ known (move .move-wide .ensures _))
+
+move-two-requires : tie.Need-move-two-requires
+move-two-requires c κs =
+    let other = c .before .before in
+    let width = other .before in
+    (rw (other .if2 .left) at (width .is-wide .ensures)) (width .before .before .if1 .left)
+
+signed-u64-requires-2 : tie.Need-signed-u64-requires-2
+signed-u64-requires-2 c κs = search needs
+
+returns-3 : tie.Need-returns-3
+returns-3 c =
+    let d = c .signed-u642 in
+    let move = c .before in
+    let known = move .before .before .before .before .before .before .if1 .left in
+    rw (result-read w64 (d .result) (d .ok), d .ensures) (i64-moved _ _ known (move .move-two .ensures))
 
 pub vrd-i64-in-spec : {M : Type 1} → statement M
 vrd-i64-in-spec =
@@ -31,6 +51,10 @@ vrd-i64-in-spec =
     (tie.spec
     element-copy-out-if1
     returns
-    move-u64-requires
+    is-wide-requires
+    move-wide-requires
     signed-u64-requires
-    returns-2)
+    returns-2
+    move-two-requires
+    signed-u64-requires-2
+    returns-3)

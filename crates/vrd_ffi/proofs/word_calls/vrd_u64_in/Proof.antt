@@ -1,4 +1,4 @@
--- `vrd_u64_in` meets its contract: an unknown kind, and the word.
+-- `vrd_u64_in` meets its contract: an unknown kind, a wide one and a narrow one.
 use borrow.Author.Needs.{needs}
 use Rattle.lent_state.specs.AnswersLaws.{unknown-kind}
 use Rattle.vrd_ffi.specs.WordLaws.{u64-moved}
@@ -11,11 +11,23 @@ element-copy-out-if1 c = search needs
 returns : tie.Need-returns
 returns c = unknown-kind _ _ _ _ (c .if1 .taken)
 
-move-u64-requires : tie.Need-move-u64-requires
-move-u64-requires c κs = search needs
+is-wide-requires : tie.Need-is-wide-requires
+is-wide-requires c κs = search needs
+
+move-wide-requires : tie.Need-move-wide-requires
+move-wide-requires c κs = rw (c .before .if2 .taken) at (c .before .before .is-wide .ensures)
 
 returns-2 : tie.Need-returns-2
-returns-2 c = u64-moved _ _ (c .before .before .before .if1 .left) (c .move-u64 .ensures)
+returns-2 c = u64-moved _ _ (c .before .before .before .before .before .if1 .left) (c .move-wide .ensures _)
+
+move-two-requires : tie.Need-move-two-requires
+move-two-requires c κs =
+    let other = c .before .before in
+    let width = other .before in
+    (rw (other .if2 .left) at (width .is-wide .ensures)) (width .before .before .if1 .left)
+
+returns-3 : tie.Need-returns-3
+returns-3 c = u64-moved _ _ (c .before .before .before .before .before .before .if1 .left) (c .move-two .ensures)
 
 pub vrd-u64-in-spec : {M : Type 1} → statement M
 vrd-u64-in-spec =
@@ -23,5 +35,8 @@ vrd-u64-in-spec =
     (tie.spec
     element-copy-out-if1
     returns
-    move-u64-requires
-    returns-2)
+    is-wide-requires
+    move-wide-requires
+    returns-2
+    move-two-requires
+    returns-3)

@@ -1,9 +1,9 @@
--- `quick` meets its contract: of each kind a word that settles the draw, and wherever it ends with nothing settled.
+-- `quick_first` meets its contract: of each kind a word that settles the draw, and wherever it ends with nothing settled.
 use borrow.Author.Needs.{needs}
 use native.Mathlib.Omega.{arith}
-use Rattle.vrd_ffi.specs.MovesLaws.{xoshiro-moved, pcg32-moved, pcg64-moved, twister-ready, quick-hit, quick-miss}
-use Rattle.vrd_ffi.proofs.first_word.quick.Statement.{statement}
-use Rattle.vrd_ffi.proofs.first_word.quick.Tie as tie
+use Rattle.vrd_ffi.specs.MovesLaws.{xoshiro-moved, twister-ready, quick-hit, quick-miss}
+use Rattle.vrd_ffi.proofs.first_word.quick_first.Statement.{statement}
+use Rattle.vrd_ffi.proofs.first_word.quick_first.Tie as tie
 
 element-copy-out-kind : tie.Need-element-copy-out-kind
 element-copy-out-kind c = search needs
@@ -73,65 +73,11 @@ returns-4 c =
 returns-5 : tie.Need-returns-5
 returns-5 c = quick-miss
 
-pcg32-in-requires : tie.Need-pcg32-in-requires
-pcg32-in-requires c κs = search needs
-
-next-u32-requires-2 : tie.Need-next-u32-requires-2
-next-u32-requires-2 c κs = search needs
-
-settled-by-requires-3 : tie.Need-settled-by-requires-3
-settled-by-requires-3 c κs = search needs
-
-element-copy-out-put-small : tie.Need-element-copy-out-put-small
-element-copy-out-put-small c = search needs
-
-element-copy-out-put-small-2 : tie.Need-element-copy-out-put-small-2
-element-copy-out-put-small-2 c = search needs
-
-put-small-requires-2 : tie.Need-put-small-requires-2
-put-small-requires-2 c κs = search needs
-
 returns-6 : tie.Need-returns-6
-returns-6 c =
-    let test = c .before .before .before .before in
-    let draw = test .before .before in
-    let kind = draw .before .before .before .if6 .taken in
-    let drawn = rw (draw .before .pcg32-in .ensures) at (draw .next-u322 .ensures) in
-    let moved = pcg32-moved _ _ _ kind _ drawn (c .put-small2 .ensures) in
-    quick-hit (omega (arith, kind)) moved (test .before .settled-by3 .ensures) (test .if7 .taken)
+returns-6 c = quick-miss
 
-returns-7 : tie.Need-returns-7
-returns-7 c = quick-miss
-
-pcg64-in-requires : tie.Need-pcg64-in-requires
-pcg64-in-requires c κs = search needs
-
-next-u32-requires-3 : tie.Need-next-u32-requires-3
-next-u32-requires-3 c κs = search needs
-
-settled-by-requires-4 : tie.Need-settled-by-requires-4
-settled-by-requires-4 c κs = search needs
-
-put-small-requires-3 : tie.Need-put-small-requires-3
-put-small-requires-3 c κs = search needs
-
-returns-8 : tie.Need-returns-8
-returns-8 c =
-    let test = c .before .before in
-    let draw = test .before .before in
-    let kind = draw .before .before .before .if8 .taken in
-    let drawn = rw (draw .before .pcg64-in .ensures) at (draw .next-u323 .ensures) in
-    let moved = pcg64-moved _ _ _ kind _ drawn (c .put-small3 .ensures) in
-    quick-hit (omega (arith, kind)) moved (test .before .settled-by4 .ensures) (test .if9 .taken)
-
-returns-9 : tie.Need-returns-9
-returns-9 c = quick-miss
-
-returns-10 : tie.Need-returns-10
-returns-10 c = quick-miss
-
-pub quick-spec : {M : Type 1} → statement M
-quick-spec =
+pub quick-first-spec : {M : Type 1} → statement M
+quick-first-spec =
     tie.close
     (tie.spec
     element-copy-out-kind
@@ -152,18 +98,4 @@ quick-spec =
     put-position-requires
     returns-4
     returns-5
-    pcg32-in-requires
-    next-u32-requires-2
-    settled-by-requires-3
-    element-copy-out-put-small
-    element-copy-out-put-small-2
-    put-small-requires-2
-    returns-6
-    returns-7
-    pcg64-in-requires
-    next-u32-requires-3
-    settled-by-requires-4
-    put-small-requires-3
-    returns-8
-    returns-9
-    returns-10)
+    returns-6)

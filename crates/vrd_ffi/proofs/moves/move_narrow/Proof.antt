@@ -1,9 +1,8 @@
--- `move_u32` meets its contract: the twister, Pcg32, and the kinds whose own word has 64 bits.
+-- `move_narrow` meets its contract: the twister, and otherwise Pcg32.
 use borrow.Author.Needs.{needs}
-use native.Mathlib.Omega.{arith}
-use Rattle.vrd_ffi.specs.MovesLaws.{twister-moved, pcg32-moved, half-moved}
-use Rattle.vrd_ffi.proofs.moves.move_u32.Statement.{statement}
-use Rattle.vrd_ffi.proofs.moves.move_u32.Tie as tie
+use Rattle.vrd_ffi.specs.MovesLaws.{twister-moved, pcg32-moved}
+use Rattle.vrd_ffi.proofs.moves.move_narrow.Statement.{statement}
+use Rattle.vrd_ffi.proofs.moves.move_narrow.Tie as tie
 
 element-copy-out-kind : tie.Need-element-copy-out-kind
 element-copy-out-kind c = search needs
@@ -41,23 +40,12 @@ put-small-requires c κs = search needs
 returns-2 : tie.Need-returns-2
 returns-2 c =
     let draw = c .before .before .before .before in
+    let other = draw .before .before .before in
     let drawn = rw (draw .before .pcg32-in .ensures) at (draw .next-u32 .ensures) in
-    pcg32-moved _ _ _ (draw .before .before .before .if2 .taken) _ drawn (c .put-small .ensures)
+    pcg32-moved _ _ _ (other .before .before .pre (other .if1 .left)) _ drawn (c .put-small .ensures)
 
-move-wide-requires : tie.Need-move-wide-requires
-move-wide-requires c κs = search needs
-
-cast-result : tie.Need-cast-result
-cast-result c = search needs
-
-returns-3 : tie.Need-returns-3
-returns-3 c =
-    let wide = c .before .before in
-    let known = wide .before .before .before .pre in
-    half-moved _ _ _ _ _ (λ n. omega (arith, known, wide .before .if1 .left, wide .if2 .left)) (c .move-wide .ensures _)
-
-pub move-u32-spec : {M : Type 1} → statement M
-move-u32-spec =
+pub move-narrow-spec : {M : Type 1} → statement M
+move-narrow-spec =
     tie.close
     (tie.spec
     element-copy-out-kind
@@ -70,7 +58,4 @@ move-u32-spec =
     element-copy-out-put-small
     element-copy-out-put-small-2
     put-small-requires
-    returns-2
-    move-wide-requires
-    cast-result
-    returns-3)
+    returns-2)
