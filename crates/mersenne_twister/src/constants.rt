@@ -24,5 +24,14 @@ pub(crate) const N: usize = 624;
 // How far ahead the third word of the recurrence stands.
 pub(crate) const M: usize = 397;
 
+// From this entry on that word is past the end of the table, and stands so many entries back.
+pub(crate) const BACK: usize = N - M;
+
+// From this entry on it stands at an entry from BACK on.
+pub(crate) const TWICE_BACK: usize = 2 * BACK;
+
+// The last entry; the word after it is entry 0.
+pub(crate) const LAST: usize = N - 1;
+
 // The position at which the next draw twists first.
 pub const END: u32 = 624;

@@ -4,9 +4,11 @@ ghost use Prim.Native.Nat.{_<_};
 ghost use Rattle.mersenne_twister.specs.Table.{folded, renewWith, renewed};
 ghost use Rattle.mersenne_twister.specs.Promises.{StoredPositionPromise, SeedInPromise, FromSeedInPromise};
 ghost use Rattle.mersenne_twister.specs.Promises.{TwistInPromise, RandInPromise, NextU64InPromise};
+use super::constants::BACK;
 use super::constants::END;
+use super::constants::LAST;
 use super::constants::M;
-use super::constants::N;
+use super::constants::TWICE_BACK;
 use super::word::follow_word;
 use super::word::seed_step;
 use super::word::temper_word;
@@ -74,15 +76,25 @@ fn renew_at(mt: &mut [u32; 624], i: usize, j: usize, k: usize)
     mt[i] = follow_word(mt[i], mt[j], mt[k]);
 }
 
-// Every entry is renewed in its turn, so that those from 227 on are made with entries already renewed.
+// Every entry is renewed in its turn, so that those from 227 on are made with entries already renewed. Three runs and the last entry:
+// no index needs a remainder, and no run reads, as the third entry, one that it renews itself, so that the compiler renews several at once.
 fn renew(mt: &mut [u32; 624])
     ensures { λ _. ⌜ now (mt .exit) ≡ renewed 624 (now (mt .entry)) ⌝ }
 {
     let mut i: usize = 0;
-    while i < N {
-        renew_at(mt, i, (i + 1) % N, (i + M) % N);
+    while i < BACK {
+        renew_at(mt, i, i + 1, i + M);
         i += 1;
     }
+    while i < TWICE_BACK {
+        renew_at(mt, i, i + 1, i - BACK);
+        i += 1;
+    }
+    while i < LAST {
+        renew_at(mt, i, i + 1, i - BACK);
+        i += 1;
+    }
+    renew_at(mt, LAST, 0, LAST - BACK);
 }
 
 // The twist; the answer is the position.
