@@ -44,7 +44,7 @@ abbrev pub Widths : List ℕ → Bool → Type 0
 Widths s true = IsWide s
 Widths s false = kindIn s ≤ 3 → IsNarrow s
 
--- they don't use the table
+-- of a kind that does not use the table
 abbrev pub MovesWide : List ℕ → ℕ → List ℕ → Type 0
 MovesWide s word s′ = (t : List ℕ) → Moves64 s t word s′ t
 

@@ -1,6 +1,7 @@
 // A generator moved by a word in place. The small words are read and written one by one and handed on as numbers: copied as a whole, just
 // after they were written, they would hold up every call. The kinds are taken two and two: functions of this size are merged into every call
 // that stands on them, and one over all four kinds would not be.
+ghost use mathlib.Core.Path.{_≡_};
 ghost use Prim.Native.Nat.{_≤_};
 ghost use Rattle.vrd_ffi.specs.Moves.{Moves32, Moves64, MovesWide, IsWide, IsNarrow, Widths};
 ghost use Rattle.lent_state.specs.State.{kindIn};
@@ -63,17 +64,21 @@ pub(crate) fn move_narrow(state: &mut [u64; 6], table: &mut [u32; 624]) -> u32
     d.word
 }
 
-// The next two words of kinds 1 and 2 as one of 64 bits, by the kind's own order of halves.
-pub(crate) fn move_two(state: &mut [u64; 6], table: &mut [u32; 624]) -> u64
-    requires { ⌜ IsNarrow (now state) ⌝ }
+// The next two words of kind 1 as one of 64 bits, the high one first.
+pub(crate) fn twister_two(state: &mut [u64; 6], table: &mut [u32; 624]) -> u64
+    requires { ⌜ kindIn (now state) ≡ 1 ⌝ }
     ensures { λ r. ⌜ Moves64 (now (state .entry)) (now (table .entry)) r (now (state .exit)) (now (table .exit)) ⌝ }
 {
-    let kind = state[0];
-    if kind == 1 {
-        let d = mersenne_twister::next_u64_in(table, position(state));
-        put_position(d.mti, state);
-        return d.word;
-    }
+    let d = mersenne_twister::next_u64_in(table, position(state));
+    put_position(d.mti, state);
+    d.word
+}
+
+// The next two words of kind 2 as one of 64 bits, the low one first.
+pub(crate) fn pcg32_two(state: &mut [u64; 6]) -> u64
+    requires { ⌜ kindIn (now state) ≡ 2 ⌝ }
+    ensures { λ r. ⌜ MovesWide (now (state .entry)) r (now (state .exit)) ⌝ }
+{
     let d = pcg32_in(state).next_u64();
     put_small(d.next.state, d.next.inc, state[4], state[5], state);
     d.word
@@ -87,5 +92,8 @@ pub(crate) fn move_u64(state: &mut [u64; 6], table: &mut [u32; 624]) -> u64
     if is_wide(state) {
         return move_wide(state);
     }
-    move_two(state, table)
+    if state[0] == 1 {
+        return twister_two(state, table);
+    }
+    pcg32_two(state)
 }

@@ -4,8 +4,9 @@ use crate::answers::SignedWord;
 use crate::answers::Word;
 use crate::moves::is_wide;
 use crate::moves::move_narrow;
-use crate::moves::move_two;
 use crate::moves::move_wide;
+use crate::moves::pcg32_two;
+use crate::moves::twister_two;
 use crate::state::engine_in;
 use lent_state::write;
 use words::refusal;
@@ -53,7 +54,14 @@ pub extern "C" fn vrd_u64_in(state: &mut [u64; 6], table: &mut [u32; 624]) -> Wo
             refusal: refusal::ANSWERED,
         };
     }
-    let value = move_two(state, table);
+    if state[0] == 1 {
+        let value = twister_two(state, table);
+        return Word {
+            value,
+            refusal: refusal::ANSWERED,
+        };
+    }
+    let value = pcg32_two(state);
     Word {
         value,
         refusal: refusal::ANSWERED,
@@ -79,7 +87,15 @@ pub extern "C" fn vrd_i64_in(state: &mut [u64; 6], table: &mut [u32; 624]) -> Si
             refusal: refusal::ANSWERED,
         };
     }
-    let word = move_two(state, table);
+    if state[0] == 1 {
+        let word = twister_two(state, table);
+        let value = signed::signed_u64(word);
+        return SignedWord {
+            value,
+            refusal: refusal::ANSWERED,
+        };
+    }
+    let word = pcg32_two(state);
     let value = signed::signed_u64(word);
     SignedWord {
         value,

@@ -1,4 +1,4 @@
--- `vrd_i64_in` meets its contract: an unknown kind, a wide one and a narrow one, the word read as signed.
+-- `vrd_i64_in` meets its contract: an unknown kind, a wide one, the twister, and otherwise Pcg32, the word read as signed.
 use borrow.Author.Needs.{needs}
 use mir.Syntax.{w64}
 use Rattle.signed.specs.Callers.{result-read}
@@ -29,11 +29,11 @@ returns-2 c =
     let known = move .before .before .before .before .before .if1 .left in
     rw (result-read w64 (d .result) (d .ok), d .ensures) (i64-moved _ _ known (move .move-wide .ensures _))
 
-move-two-requires : tie.Need-move-two-requires
-move-two-requires c κs =
-    let other = c .before .before in
-    let width = other .before in
-    (rw (other .if2 .left) at (width .is-wide .ensures)) (width .before .before .if1 .left)
+element-copy-out-if3 : tie.Need-element-copy-out-if3
+element-copy-out-if3 c = search needs
+
+twister-two-requires : tie.Need-twister-two-requires
+twister-two-requires c κs = search needs
 
 signed-u64-requires-2 : tie.Need-signed-u64-requires-2
 signed-u64-requires-2 c κs = search needs
@@ -42,8 +42,24 @@ returns-3 : tie.Need-returns-3
 returns-3 c =
     let d = c .signed-u642 in
     let move = c .before in
-    let known = move .before .before .before .before .before .before .if1 .left in
-    rw (result-read w64 (d .result) (d .ok), d .ensures) (i64-moved _ _ known (move .move-two .ensures))
+    let width = move .before .before .before .before .before .before in
+    rw (result-read w64 (d .result) (d .ok), d .ensures) (i64-moved _ _ (width .before .before .if1 .left) (move .twister-two .ensures))
+
+pcg32-two-requires : tie.Need-pcg32-two-requires
+pcg32-two-requires c κs =
+    let other = c .before in
+    let width = other .before .before in
+    (rw (width .if2 .left) at (width .before .is-wide .ensures)) (width .before .before .before .if1 .left) (other .if3 .left)
+
+signed-u64-requires-3 : tie.Need-signed-u64-requires-3
+signed-u64-requires-3 c κs = search needs
+
+returns-4 : tie.Need-returns-4
+returns-4 c =
+    let d = c .signed-u643 in
+    let move = c .before in
+    let width = move .before .before .before .before .before in
+    rw (result-read w64 (d .result) (d .ok), d .ensures) (i64-moved _ _ (width .before .before .if1 .left) (move .pcg32-two .ensures _))
 
 pub vrd-i64-in-spec : {M : Type 1} → statement M
 vrd-i64-in-spec =
@@ -55,6 +71,10 @@ vrd-i64-in-spec =
     move-wide-requires
     signed-u64-requires
     returns-2
-    move-two-requires
+    element-copy-out-if3
+    twister-two-requires
     signed-u64-requires-2
-    returns-3)
+    returns-3
+    pcg32-two-requires
+    signed-u64-requires-3
+    returns-4)

@@ -1,4 +1,4 @@
--- `vrd_u64_in` meets its contract: an unknown kind, a wide one and a narrow one.
+-- `vrd_u64_in` meets its contract: an unknown kind, a wide one, the twister, and otherwise Pcg32.
 use borrow.Author.Needs.{needs}
 use Rattle.lent_state.specs.AnswersLaws.{unknown-kind}
 use Rattle.vrd_ffi.specs.WordLaws.{u64-moved}
@@ -20,14 +20,27 @@ move-wide-requires c κs = rw (c .before .if2 .taken) at (c .before .before .is-
 returns-2 : tie.Need-returns-2
 returns-2 c = u64-moved _ _ (c .before .before .before .before .before .if1 .left) (c .move-wide .ensures _)
 
-move-two-requires : tie.Need-move-two-requires
-move-two-requires c κs =
-    let other = c .before .before in
-    let width = other .before in
-    (rw (other .if2 .left) at (width .is-wide .ensures)) (width .before .before .if1 .left)
+element-copy-out-if3 : tie.Need-element-copy-out-if3
+element-copy-out-if3 c = search needs
+
+twister-two-requires : tie.Need-twister-two-requires
+twister-two-requires c κs = search needs
 
 returns-3 : tie.Need-returns-3
-returns-3 c = u64-moved _ _ (c .before .before .before .before .before .before .if1 .left) (c .move-two .ensures)
+returns-3 c =
+    let width = c .before .before .before .before .before .before in
+    u64-moved _ _ (width .before .before .if1 .left) (c .twister-two .ensures)
+
+pcg32-two-requires : tie.Need-pcg32-two-requires
+pcg32-two-requires c κs =
+    let other = c .before in
+    let width = other .before .before in
+    (rw (width .if2 .left) at (width .before .is-wide .ensures)) (width .before .before .before .if1 .left) (other .if3 .left)
+
+returns-4 : tie.Need-returns-4
+returns-4 c =
+    let width = c .before .before .before .before .before in
+    u64-moved _ _ (width .before .before .if1 .left) (c .pcg32-two .ensures _)
 
 pub vrd-u64-in-spec : {M : Type 1} → statement M
 vrd-u64-in-spec =
@@ -38,5 +51,8 @@ vrd-u64-in-spec =
     is-wide-requires
     move-wide-requires
     returns-2
-    move-two-requires
-    returns-3)
+    element-copy-out-if3
+    twister-two-requires
+    returns-3
+    pcg32-two-requires
+    returns-4)
