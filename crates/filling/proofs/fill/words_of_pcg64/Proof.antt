@@ -4,7 +4,7 @@ use mathlib.Core.Path.{refl}
 use Prim.Native.Nat.{_-_}
 use native.Mathlib.Omega.{arith}
 use Rattle.pcg.specs.Pcg64.{wordOf, stepped}
-use Rattle.filling.specs.FillLoop.{Filling, filling-start, filling-more, filling-two, filling-end}
+use Rattle.filling.specs.FillLoop.{Filling, filling-start, filling-two, filling-last, filling-end}
 use Rattle.filling.proofs.fill.words_of_pcg64.Statement.{statement}
 use Rattle.filling.proofs.fill.words_of_pcg64.Tie as tie
 
@@ -68,8 +68,8 @@ returns c =
     let put = c .before .before .before in
     let drawn = put .before .before in
     let test = drawn .before in
-    let one = filling-more (test .before .before .loop .inv) _ _ refl refl (omega arith) (test .if1 .taken) in
-    rw (put .put83 .ensures, drawn .next-u643 .ensures) (filling-end one (omega arith))
+    rw (put .put83 .ensures, drawn .next-u643 .ensures)
+    (filling-last (test .before .before .loop .inv) _ _ refl refl (test .if1 .taken) (test .before .loop-test .left))
 
 same-length-2 : tie.Need-same-length-2 Inv-loop μ-loop
 same-length-2 c = c .before .before .loop .inv .size
