@@ -9,7 +9,7 @@ use native.Mathlib.Omega.{arith}
 use lib.Arith.{digits-div, digits-mod}
 use lib.ListN.{length, getD}
 use Rattle.filling.specs.Fill.{byteOf, byteIn}
-use Rattle.filling.specs.Poke.{poke}
+use Rattle.filling.specs.Poke.{poke, pokeTwo}
 use Rattle.filling.specs.PokeLaws.{length-poke, poke-before, poke-at}
 
 -- the state k words on, and the words as a sequence
@@ -96,7 +96,7 @@ module _ {S : Type 0} {word : S → ℕ} {step : S → S} {W : ℕ} {s : S} {n i
     (h : Filling word step W s n i cur bytes) where
   -- two words more
   pub filling-two : (w w′ : ℕ) (next : S) → w ≡ word cur → w′ ≡ word (step cur) → next ≡ step (step cur) → 0 < W → W + W ≤ n - i
-      → Filling word step W s n (i + (W + W)) next (poke W (i + W) w′ (poke W i w bytes))
+      → Filling word step W s n (i + (W + W)) next (pokeTwo W i w w′ bytes)
   filling-two w w′ next e e′ f p q =
       let z : i + (W + W) ≡ i + W + W = omega arith in
       rw z (filling-more (filling-more h w (step cur) e refl p (omega arith)) w′ next e′ f p (omega arith))

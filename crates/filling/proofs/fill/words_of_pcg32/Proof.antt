@@ -26,20 +26,14 @@ next-u32-requires c κs = search needs
 next-u32-requires-2 : tie.Need-next-u32-requires-2 Inv-loop μ-loop
 next-u32-requires-2 c κs = search needs
 
-cast-put4 : tie.Need-cast-put4 Inv-loop μ-loop
-cast-put4 c = search needs
+cast-put-two4 : tie.Need-cast-put-two4 Inv-loop μ-loop
+cast-put-two4 c = search needs
 
-put4-requires : tie.Need-put4-requires Inv-loop μ-loop
-put4-requires c κs = omega arith
+cast-put-two4-2 : tie.Need-cast-put-two4-2 Inv-loop μ-loop
+cast-put-two4-2 c = search needs
 
-add-put4 : tie.Need-add-put4 Inv-loop μ-loop
-add-put4 c = omega arith
-
-cast-put4-2 : tie.Need-cast-put4-2 Inv-loop μ-loop
-cast-put4-2 c = search needs
-
-put4-requires-2 : tie.Need-put4-requires-2 Inv-loop μ-loop
-put4-requires-2 c κs = omega arith
+put-two4-requires : tie.Need-put-two4-requires Inv-loop μ-loop
+put-two4-requires c κs = omega arith
 
 add-i : tie.Need-add-i Inv-loop μ-loop
 add-i c = omega arith
@@ -50,11 +44,10 @@ loop-less c = omega arith
 loop-again : tie.Need-loop-again Inv-loop μ-loop
 loop-again c =
     let put = c .before .before in
-    let first-put = put .before .before .before .before .before in
-    let second = first-put .before .before .before .before in
+    let second = put .before .before .before .before .before in
     let first = second .before .before in
     let turn = first .before in
-    rw (put .put42 .ensures, first-put .put4 .ensures, second .next-u322 .ensures, first .next-u32 .ensures)
+    rw (put .put-two4 .ensures, second .next-u322 .ensures, first .next-u32 .ensures)
     (filling-two (turn .before .loop .inv) _ _ _ refl refl refl (omega arith) (turn .loop-test .taken))
 
 sub-if1 : tie.Need-sub-if1 Inv-loop μ-loop
@@ -63,11 +56,11 @@ sub-if1 c = c .before .loop .inv .within
 next-u32-requires-3 : tie.Need-next-u32-requires-3 Inv-loop μ-loop
 next-u32-requires-3 c κs = search needs
 
-cast-put4-3 : tie.Need-cast-put4-3 Inv-loop μ-loop
-cast-put4-3 c = search needs
+cast-put4 : tie.Need-cast-put4 Inv-loop μ-loop
+cast-put4 c = search needs
 
-put4-requires-3 : tie.Need-put4-requires-3 Inv-loop μ-loop
-put4-requires-3 c κs = omega arith
+put4-requires : tie.Need-put4-requires Inv-loop μ-loop
+put4-requires c κs = omega arith
 
 same-length : tie.Need-same-length Inv-loop μ-loop
 same-length c = search needs
@@ -77,7 +70,7 @@ returns c =
     let put = c .before .before .before in
     let drawn = put .before .before .before in
     let test = drawn .before in
-    rw (put .put43 .ensures, drawn .next-u323 .ensures)
+    rw (put .put4 .ensures, drawn .next-u323 .ensures)
     (filling-last (test .before .before .loop .inv) _ _ refl refl (test .if1 .taken) (test .before .loop-test .left))
 
 same-length-2 : tie.Need-same-length-2 Inv-loop μ-loop
@@ -96,18 +89,16 @@ words-of-pcg32-spec =
     sub-loop
     next-u32-requires
     next-u32-requires-2
-    cast-put4
-    put4-requires
-    add-put4
-    cast-put4-2
-    put4-requires-2
+    cast-put-two4
+    cast-put-two4-2
+    put-two4-requires
     add-i
     loop-less
     loop-again
     sub-if1
     next-u32-requires-3
-    cast-put4-3
-    put4-requires-3
+    cast-put4
+    put4-requires
     same-length
     returns
     same-length-2
