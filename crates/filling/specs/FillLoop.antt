@@ -9,7 +9,7 @@ use native.Mathlib.Omega.{arith}
 use lib.Arith.{digits-div, digits-mod}
 use lib.ListN.{length, getD}
 use Rattle.filling.specs.Fill.{byteOf, byteIn}
-use Rattle.filling.specs.Poke.{poke}
+use Rattle.filling.specs.Poke.{poke, pokeTwo}
 use Rattle.filling.specs.PokeLaws.{length-poke, poke-before, poke-at}
 
 -- the state k words on, and the words as a sequence
@@ -91,13 +91,20 @@ module _ {S : Type 0} {word : S → ℕ} {step : S → S} {W : ℕ} {s : S} {n i
       let e : n - n % W ≡ i = omega arith in
       rw e h
 
--- two words more
-pub filling-two : {S : Type 0} {word : S → ℕ} {step : S → S} {W : ℕ} {s : S} {n i : ℕ} {cur : S} {bytes : List ℕ}
-    → Filling word step W s n i cur bytes → (w w′ : ℕ) (next : S) → w ≡ word cur → w′ ≡ word (step cur) → next ≡ step (step cur)
-    → 0 < W → W + W ≤ n - i → Filling word step W s n (i + (W + W)) next (poke W (i + W) w′ (poke W i w bytes))
-filling-two {step = step} {W = W} {n = n} {i = i} {cur = cur} h w w′ next e e′ f p q =
-    let z : i + (W + W) ≡ i + W + W = omega arith in
-    rw z (filling-more (filling-more h w (step cur) e refl p (omega arith)) w′ next e′ f p (omega arith))
+-- two words to a turn, and the one that may be left after the last turn
+module _ {S : Type 0} {word : S → ℕ} {step : S → S} {W : ℕ} {s : S} {n i : ℕ} {cur : S} {bytes : List ℕ}
+    (h : Filling word step W s n i cur bytes) where
+  -- two words more
+  pub filling-two : (w w′ : ℕ) (next : S) → w ≡ word cur → w′ ≡ word (step cur) → next ≡ step (step cur) → 0 < W → W + W ≤ n - i
+      → Filling word step W s n (i + (W + W)) next (pokeTwo W i w w′ bytes)
+  filling-two w w′ next e e′ f p q =
+      let z : i + (W + W) ≡ i + W + W = omega arith in
+      rw z (filling-more (filling-more h w (step cur) e refl p (omega arith)) w′ next e′ f p (omega arith))
+
+  -- one word more, and no room for another
+  pub filling-last : (w : ℕ) (next : S) → w ≡ word cur → next ≡ step cur → W ≤ n - i → n - i < W + W
+      → WholeWords word step W s n next (poke W i w bytes)
+  filling-last w next e f q l = filling-end (filling-more h w next e f (omega arith) q) (omega arith)
 
 -- an engine that is part of another: the same bytes
 module _ {S T : Type 0} {word : S → ℕ} {step : S → S} (word′ : T → ℕ) (step′ : T → T) (f : S → T)

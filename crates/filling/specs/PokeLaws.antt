@@ -7,7 +7,7 @@ use native.Mathlib.Omega.{arith}
 use lib.ListN.{length, getD, set, length-set}
 use lib.Seq.{getD-set-same, getD-set-other}
 use Rattle.filling.specs.Fill.{byteOf}
-use Rattle.filling.specs.Poke.{poke}
+use Rattle.filling.specs.Poke.{poke, pokeTwo}
 
 -- no length changes
 pub length-poke : (n i w : ℕ) (l : List ℕ) → length (poke n i w l) ≡ length l
@@ -36,7 +36,7 @@ poke-at (suc n) i w l (suc t) h f =
     rw z (poke-at n (i + 1) (w / 256) (set l i (w % 256)) t (omega arith) (rw length-set (omega arith)) ∙ rw e)
 
 -- four bytes and then four more are eight
-pub poke-eight : (i w : ℕ) (l : List ℕ) → poke 4 (i + 4) (w / 2 ^ 32) (poke 4 i w l) ≡ poke 8 i w l
+pub poke-eight : (i w : ℕ) (l : List ℕ) → pokeTwo 4 i w (w / 2 ^ 32) l ≡ poke 8 i w l
 unfolding poke
 poke-eight i w l =
     let e : w / 256 / 256 / 256 / 256 ≡ w / 2 ^ 32 = omega arith in

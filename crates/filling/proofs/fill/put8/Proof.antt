@@ -5,23 +5,14 @@ use Rattle.filling.specs.PokeLaws.{poke-eight}
 use Rattle.filling.proofs.fill.put8.Statement.{statement}
 use Rattle.filling.proofs.fill.put8.Tie as tie
 
-put4-requires : tie.Need-put4-requires
-put4-requires c κs = search needs
-
-add-put4 : tie.Need-add-put4
-add-put4 c = search needs
-
-put4-requires-2 : tie.Need-put4-requires-2
-put4-requires-2 c κs = search needs
+put-two4-requires : tie.Need-put-two4-requires
+put-two4-requires c κs = search needs
 
 same-length : tie.Need-same-length
 same-length c = search needs
 
 returns : tie.Need-returns
-returns c =
-    let second = c .before .before in
-    let first = second .before .before .before .before in
-    second .put42 .ensures ∙ rw (first .put4 .ensures) (poke-eight _ _ _)
+returns c = c .before .before .put-two4 .ensures ∙ poke-eight _ _ _
 
 pub put8-spec : {M : Type 1} → statement M
-put8-spec = tie.close (tie.spec put4-requires add-put4 put4-requires-2 same-length returns)
+put8-spec = tie.close (tie.spec put-two4-requires same-length returns)

@@ -4,7 +4,7 @@ use mathlib.Core.Path.{refl}
 use Prim.Native.Nat.{_-_}
 use native.Mathlib.Omega.{arith}
 use Rattle.pcg.specs.Pcg64.{wordOf, stepped}
-use Rattle.filling.specs.FillLoop.{Filling, filling-start, filling-more, filling-two, filling-end}
+use Rattle.filling.specs.FillLoop.{Filling, filling-start, filling-two, filling-last, filling-end}
 use Rattle.filling.proofs.fill.words_of_pcg64.Statement.{statement}
 use Rattle.filling.proofs.fill.words_of_pcg64.Tie as tie
 
@@ -26,14 +26,8 @@ next-u64-requires c κs = search needs
 next-u64-requires-2 : tie.Need-next-u64-requires-2 Inv-loop μ-loop
 next-u64-requires-2 c κs = search needs
 
-put8-requires : tie.Need-put8-requires Inv-loop μ-loop
-put8-requires c κs = omega arith
-
-add-put8 : tie.Need-add-put8 Inv-loop μ-loop
-add-put8 c = omega arith
-
-put8-requires-2 : tie.Need-put8-requires-2 Inv-loop μ-loop
-put8-requires-2 c κs = omega arith
+put-two8-requires : tie.Need-put-two8-requires Inv-loop μ-loop
+put-two8-requires c κs = omega arith
 
 add-i : tie.Need-add-i Inv-loop μ-loop
 add-i c = omega arith
@@ -44,11 +38,10 @@ loop-less c = omega arith
 loop-again : tie.Need-loop-again Inv-loop μ-loop
 loop-again c =
     let put = c .before .before in
-    let first-put = put .before .before .before .before in
-    let second = first-put .before .before .before in
+    let second = put .before .before .before in
     let first = second .before .before in
     let turn = first .before in
-    rw (put .put82 .ensures, first-put .put8 .ensures, second .next-u642 .ensures, first .next-u64 .ensures)
+    rw (put .put-two8 .ensures, second .next-u642 .ensures, first .next-u64 .ensures)
     (filling-two (turn .before .loop .inv) _ _ _ refl refl refl (omega arith) (turn .loop-test .taken))
 
 sub-if1 : tie.Need-sub-if1 Inv-loop μ-loop
@@ -57,8 +50,8 @@ sub-if1 c = c .before .loop .inv .within
 next-u64-requires-3 : tie.Need-next-u64-requires-3 Inv-loop μ-loop
 next-u64-requires-3 c κs = search needs
 
-put8-requires-3 : tie.Need-put8-requires-3 Inv-loop μ-loop
-put8-requires-3 c κs = omega arith
+put8-requires : tie.Need-put8-requires Inv-loop μ-loop
+put8-requires c κs = omega arith
 
 same-length : tie.Need-same-length Inv-loop μ-loop
 same-length c = search needs
@@ -68,8 +61,8 @@ returns c =
     let put = c .before .before .before in
     let drawn = put .before .before in
     let test = drawn .before in
-    let one = filling-more (test .before .before .loop .inv) _ _ refl refl (omega arith) (test .if1 .taken) in
-    rw (put .put83 .ensures, drawn .next-u643 .ensures) (filling-end one (omega arith))
+    rw (put .put8 .ensures, drawn .next-u643 .ensures)
+    (filling-last (test .before .before .loop .inv) _ _ refl refl (test .if1 .taken) (test .before .loop-test .left))
 
 same-length-2 : tie.Need-same-length-2 Inv-loop μ-loop
 same-length-2 c = c .before .before .loop .inv .size
@@ -87,15 +80,13 @@ words-of-pcg64-spec =
     sub-loop
     next-u64-requires
     next-u64-requires-2
-    put8-requires
-    add-put8
-    put8-requires-2
+    put-two8-requires
     add-i
     loop-less
     loop-again
     sub-if1
     next-u64-requires-3
-    put8-requires-3
+    put8-requires
     same-length
     returns
     same-length-2

@@ -44,13 +44,13 @@ loop-again c =
     let turn = drawn .before .before in
     let word = ap (λ (d : Drawn32). d .word) (drawn .rand-in .ensures) in
     let next = ap (λ (d : Drawn32). d .next) (drawn .rand-in .ensures) in
-    rw (put .put4 .ensures) (filling-more (turn .before .loop .inv) _ _ word next (omega arith) (turn .loop-test .taken))
+    rw (put .put4 .ensures) (filling-more (turn .before .loop .inv) _ _ word next (omega arith) (omega arith))
 
 same-length : tie.Need-same-length Inv-loop μ-loop
 same-length c = c .before .loop .inv .size
 
 returns : tie.Need-returns Inv-loop μ-loop
-returns c = filling-end (c .before .loop .inv) (c .loop-test .left)
+returns c = filling-end (c .before .loop .inv) (omega arith)
 
 pub words-of-twister-spec : {M : Type 1} → statement M
 words-of-twister-spec =

@@ -1,10 +1,10 @@
--- `words_of_xoshiro` meets its contract: each turn writes one word more.
+-- `words_of_xoshiro` meets its contract: each turn writes two words more, and one may be left after the last.
 use borrow.Author.Needs.{needs}
 use mathlib.Core.Path.{refl}
 use Prim.Native.Nat.{_-_}
 use native.Mathlib.Omega.{arith}
 use Rattle.xoshiro.specs.Generator.{result, stepped}
-use Rattle.filling.specs.FillLoop.{Filling, filling-start, filling-more, filling-end}
+use Rattle.filling.specs.FillLoop.{Filling, filling-start, filling-two, filling-last, filling-end}
 use Rattle.filling.proofs.fill.words_of_xoshiro.Statement.{statement}
 use Rattle.filling.proofs.fill.words_of_xoshiro.Tie as tie
 
@@ -23,8 +23,11 @@ sub-loop c = c .loop .inv .within
 next-u64-requires : tie.Need-next-u64-requires Inv-loop μ-loop
 next-u64-requires c κs = search needs
 
-put8-requires : tie.Need-put8-requires Inv-loop μ-loop
-put8-requires c κs = omega arith
+next-u64-requires-2 : tie.Need-next-u64-requires-2 Inv-loop μ-loop
+next-u64-requires-2 c κs = search needs
+
+put-two8-requires : tie.Need-put-two8-requires Inv-loop μ-loop
+put-two8-requires c κs = omega arith
 
 add-i : tie.Need-add-i Inv-loop μ-loop
 add-i c = omega arith
@@ -35,16 +38,37 @@ loop-less c = omega arith
 loop-again : tie.Need-loop-again Inv-loop μ-loop
 loop-again c =
     let put = c .before .before in
-    let drawn = put .before .before .before in
-    let turn = drawn .before in
-    rw (put .put8 .ensures, drawn .next-u64 .ensures)
-    (filling-more (turn .before .loop .inv) _ _ refl refl (omega arith) (turn .loop-test .taken))
+    let second = put .before .before .before in
+    let first = second .before .before in
+    let turn = first .before in
+    rw (put .put-two8 .ensures, second .next-u642 .ensures, first .next-u64 .ensures)
+    (filling-two (turn .before .loop .inv) _ _ _ refl refl refl (omega arith) (turn .loop-test .taken))
+
+sub-if1 : tie.Need-sub-if1 Inv-loop μ-loop
+sub-if1 c = c .before .loop .inv .within
+
+next-u64-requires-3 : tie.Need-next-u64-requires-3 Inv-loop μ-loop
+next-u64-requires-3 c κs = search needs
+
+put8-requires : tie.Need-put8-requires Inv-loop μ-loop
+put8-requires c κs = omega arith
 
 same-length : tie.Need-same-length Inv-loop μ-loop
-same-length c = c .before .loop .inv .size
+same-length c = search needs
 
 returns : tie.Need-returns Inv-loop μ-loop
-returns c = filling-end (c .before .loop .inv) (c .loop-test .left)
+returns c =
+    let put = c .before .before .before in
+    let drawn = put .before .before in
+    let test = drawn .before in
+    rw (put .put8 .ensures, drawn .next-u643 .ensures)
+    (filling-last (test .before .before .loop .inv) _ _ refl refl (test .if1 .taken) (test .before .loop-test .left))
+
+same-length-2 : tie.Need-same-length-2 Inv-loop μ-loop
+same-length-2 c = c .before .before .loop .inv .size
+
+returns-2 : tie.Need-returns-2 Inv-loop μ-loop
+returns-2 c = filling-end (c .before .before .loop .inv) (c .if1 .left)
 
 pub words-of-xoshiro-spec : {M : Type 1} → statement M
 words-of-xoshiro-spec =
@@ -55,9 +79,15 @@ words-of-xoshiro-spec =
     loop-holds
     sub-loop
     next-u64-requires
-    put8-requires
+    next-u64-requires-2
+    put-two8-requires
     add-i
     loop-less
     loop-again
+    sub-if1
+    next-u64-requires-3
+    put8-requires
     same-length
-    returns)
+    returns
+    same-length-2
+    returns-2)
