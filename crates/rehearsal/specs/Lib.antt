@@ -11,6 +11,8 @@ pub mod ValuesLaws
 pub mod WordAfterWord
 pub mod Rehearsing
 pub mod Settling
+pub mod Standing
+pub mod Kinds
 -- The contracts by name, and that each leaves one answer.
 pub mod Promises
 pub mod PromisesLaws

@@ -6,21 +6,20 @@ use Prim.Native.Nat.{ℕ, _+_, _-_, _≤_, _<_, min}
 use native.Mathlib.Omega.{arith}
 use lib.ListN.{length, take, drop, length-append, length-take}
 use lib.Seq.{length-take-le}
-use Rattle.words.specs.Draw.{Words, after, listed, Drawn, all, short}
+use Rattle.words.specs.Draw.{Words, after, listed}
 use Rattle.random.specs.declared.backend.Random.{Random}
 use Rattle.random.specs.declared.engine.Engine.{Engine}
 use Rattle.random.specs.Generator.{later, wordsOf}
 use Rattle.random.specs.Lent.{joinedWith}
-use Rattle.random.specs.GeneratorLaws.{later-none, later-add, words-after}
+use Rattle.random.specs.GeneratorLaws.{later-add, words-after}
 use Rattle.ahead.specs.Ahead.{firstWords}
 use Rattle.ahead.specs.AheadLaws.{words-length, word-there}
 use Rattle.rehearsal.specs.Bounds.{boundAfter}
 use Rattle.rehearsal.specs.Values.{valuesAfter, settledAfter, boundLeft}
 use Rattle.rehearsal.specs.ValuesLaws.{values-none, values-more, values-same, settled-few}
 use Rattle.rehearsal.specs.Turns.{SettledWords, wordsTaken, valuesTaken}
-use Rattle.rehearsal.specs.Rehearsal.{drawsOf, tell, rehearsedOf}
-use Rattle.rehearsal.specs.Rehearsing.{Rehearsing, rehearsing-start, rehearsing-on, rehearsing-within}
-use Rattle.rehearsal.specs.Rehearsing.{rehearsing-done, rehearsing-out}
+use Rattle.rehearsal.specs.Rehearsing.{rehearsing-on, rehearsing-within}
+use Rattle.rehearsal.specs.Standing.{Standing}
 use Rattle.rehearsal.specs.Promises.{TakeTurnPromise}
 use Rattle.rehearsal.specs.declared.turns.Draws.{Draws}
 use Rattle.rehearsal.specs.declared.turns.Turn.{Turn}
@@ -80,23 +79,8 @@ few-drawn n block p = omega (arith, settled-few-words p, length-take n block)
 
 -- ---- where draws stand, turn after turn
 
--- The draws d from the generator g have come to the turn t, with the generator cur: as many words taken and draws settled as t says.
-pub record Standing (g : Random) (d : Draws) (t : Turn) (cur : Random) : Type 0 where
-  pub moved : cur ≡ later (t .used) g
-  pub settled : t .settled ≡ settledAfter (wordsOf g) (d .first) (d .falls) (t .used)
-  pub rehearsing : Rehearsing (wordsOf g) (d .first) (d .falls) (d .count) (d .budget) (t .used)
-
--- Before the first turn no word is taken and no draw settled.
-pub standing-start : (d : Draws) (e : Engine) (mt : List ℕ)
-    → Standing (joinedWith e mt) d (record { next = e; used = 0; settled = 0 }) (joinedWith e mt)
-standing-start d e mt = record {
-  moved = sym (later-none (joinedWith e mt));
-  settled = sym (ap length (values-none (wordsOf (joinedWith e mt)) (d .first) (d .falls)));
-  rehearsing = rehearsing-start (wordsOf (joinedWith e mt)) (d .first) (d .falls) (d .count) (d .budget);
-}
-
 module _ {g : Random} {d : Draws} {t : Turn} (mt block : List ℕ) {t′ : Turn} {mt′ block′ : List ℕ}
-    (h : Standing g d t (joinedWith (t .next) mt))
+    (h : Standing g d (t .used) (t .settled) (joinedWith (t .next) mt))
     (p : TakeTurnPromise d t mt block t′ mt′ block′) where
   -- the words of the generator at the start
   abbrev s : Words
@@ -119,7 +103,7 @@ module _ {g : Random} {d : Draws} {t : Turn} (mt block : List ℕ) {t′ : Turn}
       ∙ ap (λ (x : List ℕ). valuesAfter s (d .first) (d .falls) (t .used) ++ x) (sym fresh-on)
 
   -- Where a draw was left, the draws stand after the turn where the turn says.
-  pub standing-on : t .settled < d .count → Standing g d t′ (joinedWith (t′ .next) mt′)
+  pub standing-on : t .settled < d .count → Standing g d (t′ .used) (t′ .settled) (joinedWith (t′ .next) mt′)
   standing-on more = record {
     moved = p .moved ∙ ap (later n) (h .moved) ∙ sym (later-add (t .used) n g) ∙ ap (λ (x : ℕ). later x g) (sym (p .used));
     settled = p .settled ∙ ap (λ (x : ℕ). x + length fresh) (h .settled)
@@ -135,18 +119,3 @@ pub turn-takes : {d : Draws} {t : Turn} {t′ : Turn} {mt′ block′ : List ℕ
     → 0 < length block
     → t .settled < d .count → t .used < d .budget → (t .used < t′ .used) × (t′ .used ≤ d .budget)
 turn-takes mt block p some more left = let used = p .used in (omega arith, omega arith)
-
--- ---- what a rehearsal says at its end
-
-module _ {g cur : Random} {d : Draws} {t : Turn} (h : Standing g d t cur) where
-  -- All draws are settled,
-  pub standing-all : d .count ≤ t .settled → tell true (t .used) (t .settled) ≡ rehearsedOf (drawsOf (wordsOf g) d)
-  standing-all m =
-      let settled = h .settled in
-      rw (rehearsing-done (wordsOf g) (d .first) (d .falls) (d .count) (d .budget) (t .used) (h .rehearsing) (omega arith), settled)
-
-  -- or the budget is used up.
-  pub standing-short : t .settled < d .count → d .budget ≤ t .used → tell false 0 (t .settled) ≡ rehearsedOf (drawsOf (wordsOf g) d)
-  standing-short m out =
-      let settled = h .settled in
-      rw (rehearsing-out (wordsOf g) (d .first) (d .falls) (d .count) (d .budget) (t .used) (h .rehearsing) (omega arith) out, settled)

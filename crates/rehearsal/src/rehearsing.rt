@@ -1,13 +1,17 @@
-// Draws made without their effect.
-ghost use mathlib.Core.Bool.{false};
+// Draws made without their effect: each word is looked at as it comes, in a loop for each kind, so that the next word is worked out
+// meanwhile.
 ghost use mathlib.Core.Path.{_≡_};
-ghost use Rattle.random.specs.TableKept.{onTable};
+ghost use Rattle.random.specs.declared.backend.Backend.the-variants as kinds;
 ghost use Rattle.rehearsal.specs.Rehearsal.{tell};
+ghost use Rattle.rehearsal.specs.Kinds.{ToldOf, TwisterTold};
 ghost use Rattle.rehearsal.specs.Promises.{RehearsePromise, RehearseTablePromise};
+use crate::settling::next_bound;
 use crate::turns::Draws;
-use crate::turns::Turn;
-use crate::turns::take_turn;
+use pcg::Pcg32;
+use pcg::Pcg64;
+use random::Backend;
 use random::Engine;
+use xoshiro::Xoshiro256PlusPlus;
 
 // Whether all draws are settled, the words that they use (0 where they are not all settled), and how many of them are settled.
 pub struct Rehearsed {
@@ -15,9 +19,6 @@ pub struct Rehearsed {
     pub used: u32,
     pub settled: u32,
 }
-
-// The words taken at once. Nothing depends on it but the time.
-const BLOCK: usize = 256;
 
 fn told(complete: bool, used: u32, settled: u32) -> Rehearsed
     ensures { λ r. ⌜ r ≡ tell complete used settled ⌝ }
@@ -29,24 +30,93 @@ fn told(complete: bool, used: u32, settled: u32) -> Rehearsed
     }
 }
 
-// The draws on the table itself, which they move where the kind draws from it.
-fn run(d: Draws, e: Engine, mt: &mut [u32; 624]) -> Rehearsed
-    ensures told { λ r. ⌜ RehearsePromise d e (now (mt .entry)) r ⌝ }
-    ensures table { λ r. ⌜ (onTable (e .backend) ≡ false → now (mt .exit) ≡ now (mt .entry)) ⌝ }
+fn xoshiro_run(x: Xoshiro256PlusPlus, d: Draws) -> Rehearsed
+    ensures { λ r. ⌜ ToldOf (kinds.Xoshiro256PlusPlus x) d r ⌝ }
 {
-    let mut block = [0u32; BLOCK];
-    let mut t = Turn {
-        next: e,
-        used: 0,
-        settled: 0,
-    };
-    while t.settled < d.count {
-        if d.budget <= t.used {
-            return told(false, 0, t.settled);
+    let mut next = x;
+    let mut used: u32 = 0;
+    let mut settled: u32 = 0;
+    let mut bound = d.first;
+    while settled < d.count {
+        if d.budget <= used {
+            return told(false, 0, settled);
         }
-        t = take_turn(d, t, mt, &mut block);
+        let w = next.next_u32();
+        if words::is_good(w.word, bound) {
+            settled += 1;
+            bound = next_bound(bound, d.falls);
+        }
+        next = w.next;
+        used += 1;
     }
-    told(true, t.used, t.settled)
+    told(true, used, settled)
+}
+
+fn pcg32_run(p: Pcg32, d: Draws) -> Rehearsed
+    ensures { λ r. ⌜ ToldOf (kinds.Pcg32 p) d r ⌝ }
+{
+    let mut next = p;
+    let mut used: u32 = 0;
+    let mut settled: u32 = 0;
+    let mut bound = d.first;
+    while settled < d.count {
+        if d.budget <= used {
+            return told(false, 0, settled);
+        }
+        let w = next.next_u32();
+        if words::is_good(w.word, bound) {
+            settled += 1;
+            bound = next_bound(bound, d.falls);
+        }
+        next = w.next;
+        used += 1;
+    }
+    told(true, used, settled)
+}
+
+fn pcg64_run(p: Pcg64, d: Draws) -> Rehearsed
+    ensures { λ r. ⌜ ToldOf (kinds.Pcg64 p) d r ⌝ }
+{
+    let mut next = p;
+    let mut used: u32 = 0;
+    let mut settled: u32 = 0;
+    let mut bound = d.first;
+    while settled < d.count {
+        if d.budget <= used {
+            return told(false, 0, settled);
+        }
+        let w = next.next_u32();
+        if words::is_good(w.word, bound) {
+            settled += 1;
+            bound = next_bound(bound, d.falls);
+        }
+        next = w.next;
+        used += 1;
+    }
+    told(true, used, settled)
+}
+
+// The draws on the table itself, which they move.
+fn twister_run(mt: &mut [u32; 624], mti: u32, d: Draws) -> Rehearsed
+    ensures { λ r. ⌜ TwisterTold (now (mt .entry)) mti d r ⌝ }
+{
+    let mut at = mti;
+    let mut used: u32 = 0;
+    let mut settled: u32 = 0;
+    let mut bound = d.first;
+    while settled < d.count {
+        if d.budget <= used {
+            return told(false, 0, settled);
+        }
+        let s = mersenne_twister::rand_in(mt, at);
+        if words::is_good(s.word, bound) {
+            settled += 1;
+            bound = next_bound(bound, d.falls);
+        }
+        at = s.mti;
+        used += 1;
+    }
+    told(true, used, settled)
 }
 
 // What these draws come to. The table is as it came.
@@ -54,10 +124,15 @@ pub fn rehearse(d: Draws, e: Engine, mt: &mut [u32; 624]) -> Rehearsed
     ensures told { λ r. ⌜ RehearsePromise d e (now (mt .entry)) r ⌝ }
     ensures table { λ r. ⌜ RehearseTablePromise (now (mt .entry)) (now (mt .exit)) ⌝ }
 {
+    let mti = e.mti;
     let backend = e.backend;
-    if random::on_table(backend) {
-        let mut copy = *mt;
-        return run(d, e, &mut copy);
+    match backend {
+        Backend::Xoshiro256PlusPlus(x) => xoshiro_run(x, d),
+        Backend::MersenneTwister => {
+            let mut copy = *mt;
+            twister_run(&mut copy, mti, d)
+        }
+        Backend::Pcg32(p) => pcg32_run(p, d),
+        Backend::Pcg64(p) => pcg64_run(p, d),
     }
-    run(d, e, mt)
 }

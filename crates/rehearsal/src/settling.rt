@@ -4,7 +4,7 @@ ghost use Rattle.rehearsal.specs.Bounds.{boundAfter};
 ghost use Rattle.rehearsal.specs.Promises.{SettlePromise};
 
 // The bound after r.
-fn next_bound(r: u32, falls: bool) -> u32
+pub(crate) fn next_bound(r: u32, falls: bool) -> u32
     ensures { λ n. ⌜ n ≡ boundAfter falls r 1 ⌝ }
 {
     if falls {

@@ -22,7 +22,8 @@ use Rattle.rehearsal.specs.Rehearsing.{rehearsing-within, rehearsing-done, rehe
 use Rattle.rehearsal.specs.Values.{valuesAfter}
 use Rattle.rehearsal.specs.ValuesLaws.{values-none}
 use Rattle.rehearsal.specs.Turns.{valuesInFront, wordsTaken, valuesTaken}
-use Rattle.rehearsal.specs.TurnLaws.{Standing, standing-start, standing-on, values-on, fresh}
+use Rattle.rehearsal.specs.Standing.{Standing, standing-start}
+use Rattle.rehearsal.specs.TurnLaws.{standing-on, values-on, fresh}
 use Rattle.rehearsal.specs.Promises.{TakeTurnPromise}
 use Rattle.rehearsal.specs.declared.turns.Draws.{Draws}
 use Rattle.rehearsal.specs.declared.turns.Turn.{Turn}
@@ -53,14 +54,14 @@ draws-made n budget h e = ap (λ (x : ℕ). drawsBelow n x budget) e ∙ sym (dr
 
 -- The draws d stand at the turn t, and the list l₀ has become l by the swaps of those settled.
 pub record Performing (g : Random) (d : Draws) (l₀ : List ℕ) (t : Turn) (cur : Random) (l : List ℕ) : Type 0 where
-  pub standing : Standing g d t cur
+  pub standing : Standing g d (t .used) (t .settled) cur
   pub list : l ≡ arranged (d .count) (valuesAfter (wordsOf g) (d .first) (d .falls) (t .used)) l₀
 
 -- Before the first turn the list is as it came.
 pub performing-start : (d : Draws) (e : Engine) (mt l : List ℕ)
     → Performing (joinedWith e mt) d l (record { next = e; used = 0; settled = 0 }) (joinedWith e mt) l
 performing-start d e mt l = record {
-  standing = standing-start d e mt;
+  standing = standing-start d (joinedWith e mt);
   list = sym (rw (values-none (wordsOf (joinedWith e mt)) (d .first) (d .falls)) (arranged-none (d .count) l));
 }
 
