@@ -6,3 +6,4 @@ pub mod Seeding
 pub mod Promises
 pub mod PromisesLaws
 pub mod SeedingLaws
+pub mod SizedParts

@@ -6,6 +6,7 @@ pub mod TableLaws
 pub mod DrawLaws
 pub mod SameWords
 pub mod Bounds
+pub mod SizedParts
 pub mod Vectors
 pub mod Promises
 pub mod PromisesLaws

@@ -9,3 +9,4 @@ pub mod SplittingLaws
 pub mod Promises
 pub mod PromisesLaws
 pub mod SameLaws
+pub mod SizedParts

@@ -1,5 +1,6 @@
 // Words by value: of 32 bits, of 64, and 32 words XORed. Each call hands back the next generator.
 ghost use Rattle.random.specs.Promises.{EngineOfPromise, WithTablePromise, RandPromise, U64Promise, I64Promise, PseudoPromise};
+ghost use Rattle.random.specs.SizedParts.{StaysSized};
 use crate::backend::Random;
 use crate::engine::Engine;
 use crate::lent;
@@ -46,6 +47,7 @@ pub fn with_table(e: Engine, mt: [u32; 624]) -> Random
 // The next word.
 pub fn rand(g: Random) -> Word32
     ensures { λ r. ⌜ RandPromise g r ⌝ }
+    ensures { λ r. ⌜ StaysSized g (r .next) ⌝ }
 {
     let mut moved = g;
     let d = lent::next_u32(engine_of(g), &mut moved.twister.mt);

@@ -8,6 +8,10 @@ use lib.ListN.{getD}
 abbrev pub byteAt : (s : List ℕ) (i k : ℕ) → ℕ
 byteAt s i k = getD s (i + k) 0
 
+-- every entry is a byte; past the end it is 0
+abbrev pub AreBytes : List ℕ → Type 0
+AreBytes s = (j : ℕ) → getD s j 0 < 2 ^ 8
+
 -- the number of the n bytes from the place i on, the lowest first
 unfoldable pub little : (n : ℕ) (s : List ℕ) (i : ℕ) → ℕ
 little zero s i = 0

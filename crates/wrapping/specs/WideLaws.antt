@@ -1,10 +1,10 @@
 -- The laws of numbers held as two words: their words are read off, and the words of a sum and of a product modulo 2 ^ 128.
 use mathlib.Core.Path.{_≡_, sym, ap, _∙_}
 use Prim.Native.Nat.{ℕ, _+_, _*_, _/_, _%_, _^_, _≤_, _<_}
-use native.Mathlib.Nat.{div-add-mod', mul-add-mod-self-right, add-assoc, add-left-comm, mod-add-mod}
+use native.Mathlib.Nat.{div-add-mod', mod-lt, mul-add-mod-self-right, add-assoc, add-left-comm, mod-add-mod}
 use native.Mathlib.Omega.{arith}
-use lib.Pow.{shr-shr, high, low, field, mod-mod-pow}
-use Rattle.wrapping.specs.Wide.{value, wide, wideSum, wideProduct}
+use lib.Pow.{pow-pos, shr-lt, shr-shr, high, low, field, mod-mod-pow}
+use Rattle.wrapping.specs.Wide.{value, wide, SizedWide, wideSum, wideProduct}
 use Rattle.wrapping.specs.declared.wide.Wide.{Wide}
 
 -- ---- a number and its words
@@ -12,6 +12,10 @@ use Rattle.wrapping.specs.declared.wide.Wide.{Wide}
 -- a number is what its two words hold
 pub value-wide : (n : ℕ) → value (wide n) ≡ n
 value-wide n = div-add-mod' n (2 ^ 64)
+
+-- of a number below 2 ^ 128 they have 64 bits each
+pub sized-wide : (n : ℕ) → n < 2 ^ 128 → SizedWide (wide n)
+sized-wide n h = record { high = shr-lt 64 64 h; low = mod-lt n (pow-pos 64) }
 
 -- and the two words are read off the number
 pub high-word : (a : Wide) → a .low < 2 ^ 64 → value a / 2 ^ 64 ≡ a .high

@@ -4,6 +4,7 @@ pub mod Generator
 pub mod Seed
 pub mod Jump
 pub mod SeedLaws
+pub mod SizedParts
 pub mod Vectors
 pub mod Promises
 pub mod PromisesLaws

@@ -29,7 +29,7 @@ loop-again : tie.Need-loop-again Inv-loop μ-loop
 loop-again c =
     let drawn = c .before .before .rand in
     let loop = c .before .before .before .before .loop in
-    (omega arith, xored-more _ (loop .i) (loop .word) (loop .next) (drawn .result) (loop .inv .1) (drawn .ensures))
+    (omega arith, xored-more _ (loop .i) (loop .word) (loop .next) (drawn .result) (loop .inv .1) (drawn .ensures .0))
 
 returns : tie.Need-returns Inv-loop μ-loop
 returns c =
