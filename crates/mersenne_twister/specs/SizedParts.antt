@@ -7,7 +7,7 @@ use native.Mathlib.Nat.{lt-of-not-le}
 use native.Mathlib.Omega.{arith}
 use lib.Bits.{xor-lt}
 use lib.Dec.{lit<}
-use Rattle.wrapping.specs.Bytes.{AreBytes, little}
+use Rattle.wrapping.specs.Bytes.{AreBytes}
 use Rattle.wrapping.specs.BytesLaws.{little-lt}
 use Rattle.mersenne_twister.specs.declared.MersenneTwister.{MersenneTwister}
 use Rattle.mersenne_twister.specs.Bounds.{Words, seed-word-lt, words-seeded, words-stored, words-renewed, words-drawn}

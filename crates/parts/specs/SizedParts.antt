@@ -1,6 +1,5 @@
 -- A position set, a twist and a split keep a generator's parts sized, parent and child.
 use Prim.Native.Nat.{ℕ}
-use lib.Dec.{lit<}
 use Rattle.mersenne_twister.specs.declared.MersenneTwister as twister-type
 use Rattle.mersenne_twister.specs.SizedParts as twister
 use Rattle.mersenne_twister.specs.Table.{held}

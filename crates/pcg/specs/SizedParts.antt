@@ -6,7 +6,7 @@ use Rattle.wrapping.specs.Wide.{SizedWide}
 use Rattle.wrapping.specs.WideLaws.{sized-wide}
 use Rattle.pcg.specs.declared.pcg32.Pcg32.{Pcg32}
 use Rattle.pcg.specs.declared.pcg64.Pcg64.{Pcg64}
-use Rattle.pcg.specs.Lcg.{affine, increment, seededState}
+use Rattle.pcg.specs.Lcg.{seededState}
 use Rattle.pcg.specs.Pcg32 as pcg32
 use Rattle.pcg.specs.Pcg64 as pcg64
 use Rattle.pcg.specs.StreamLaws.{increment-fits}

@@ -1,7 +1,7 @@
 -- The words of a state have 64 bits, as the code's have: a state that is seeded has such words, and a step or a jump keeps them.
 use mathlib.Core.Bool.{Bool, true, false}
-use mathlib.Core.Path.{_≡_, refl}
-use Prim.Native.Nat.{ℕ, zero, suc, _*_, _/_, _%_, _^_, _<_}
+use mathlib.Core.Path.{refl}
+use Prim.Native.Nat.{ℕ, zero, suc, _*_, _%_, _^_, _<_}
 use native.Mathlib.Nat.{lt-of-le-of-lt, div-le-self, mod-lt}
 use lib.Bits.{xor-lt}
 use lib.Dec.{eqb, lit<}
@@ -9,7 +9,7 @@ use lib.Pow.{pow-pos}
 use Rattle.wrapping.specs.RotateLaws.{turn-lt}
 use Rattle.xoshiro.specs.declared.Xoshiro256PlusPlus.{Xoshiro256PlusPlus}
 use Rattle.xoshiro.specs.Generator.{stepped}
-use Rattle.xoshiro.specs.Jump.{jumpBit, xored, picked, turned, jumping, jumped}
+use Rattle.xoshiro.specs.Jump.{jumpBit, picked, turned, jumping, jumped}
 use Rattle.xoshiro.specs.Seed.{seeded, fourWords}
 use Rattle.xoshiro.specs.SplitMix64.{xorShift, mixed}
 
