@@ -68,14 +68,3 @@ told-formed {A} {B} s t none call f h = ap (λ (x : Told A). told (f (x .answer)
         ≡ atBoundary s t (f none) (λ g. formed f (call g))
     go true e = rw e
     go false e = rw e
-
--- a refused call leaves the very lists that came: where the library hands the generator back as it was
-pub refused-keeps : {A : Type 0} (s t : List ℕ) (none : A) (call : Random → Reply A)
-    → (call (generatorIn s t) .refusal ≡ refusal.answered → ⊥)
-    → call (generatorIn s t) .next ≡ generatorIn s t → (atBoundary s t none call .state ≡ s) × (atBoundary s t none call .table ≡ t)
-unfolding atBoundary ofKnown stateAfter
-refused-keeps s t none call h e = go (leb (kindIn s) 3) refl
-  where
-    go : (b : Bool) → leb (kindIn s) 3 ≡ b → (atBoundary s t none call .state ≡ s) × (atBoundary s t none call .table ≡ t)
-    go true k = rw (k, ne-eqb (call (generatorIn s t) .refusal) 0 h) (refl, ap (λ (g : Random). g .twister .mt) e)
-    go false k = rw k (refl, refl)

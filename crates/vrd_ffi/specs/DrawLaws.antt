@@ -18,10 +18,8 @@ use Rattle.words.specs.Refusal as refusal
 use Rattle.signed.specs.GapLaws.{gap-fits}
 use Rattle.signed.specs.Signed.{wrappedSum, gap}
 use Rattle.signed.specs.SignedLaws.{sum-exact}
-use Rattle.random.specs.Generator.{later, wordsOf}
-use Rattle.random.specs.GeneratorLaws.{later-none}
+use Rattle.random.specs.Generator.{wordsOf}
 use Rattle.bounded.specs.Answers as library
-use Rattle.bounded.specs.Budgeted.{Budgeted, Refused}
 use Rattle.words.specs.OutcomeLaws.{raised-answered, raised-refused}
 use Rattle.words.specs.Outcomes.{raised, workedOn}
 use Rattle.bounded.specs.RangeLaws.{range-drawn}
@@ -37,7 +35,7 @@ use Rattle.lists.specs.Limit.{listLimit}
 use Rattle.lists.specs.Slicing as slicing
 use Rattle.vrd_ffi.specs.declared.answers.Number.{Number}
 use Rattle.lent_state.specs.Answers.{told, formed, atBoundary}
-use Rattle.lent_state.specs.AnswersLaws.{same-reply, told-formed, refused-keeps}
+use Rattle.lent_state.specs.AnswersLaws.{same-reply, told-formed}
 use Rattle.vrd_ffi.specs.Choosing.{entryOf}
 use Rattle.vrd_ffi.specs.Counting.{counted, countedModulo}
 use Rattle.vrd_ffi.specs.Handed.{number, integer, choice, numberOf, integerOf, choiceOf, startOf, drawnBy, countedBy}
@@ -53,17 +51,6 @@ raised-zero o = go (eqb (o .refusal) 0) refl
         let z = eqb-true (o .refusal) 0 e in
         raised-answered 0 o z ∙ rw zero-add (ap (λ (n : ℕ). record { refusal = n; value = o .value; used = o .used }) (sym z))
     go false e = raised-refused 0 o (eqb-false (o .refusal) 0 e)
-
--- "a refusal leaves everything unchanged": of every budgeted call, a refused draw leaves the very lists that came
-pub refused-draw-keeps : {call : Words → ℕ → Outcome} → Budgeted call → (s t : List ℕ) (budget : ℕ)
-    → Refused (call (wordsOf (generatorIn s t)) budget)
-    → (atBoundary s t (number 0 0 refusal.kind) (drawnBy (λ w. call w budget)) .state ≡ s)
-    × (atBoundary s t (number 0 0 refusal.kind) (drawnBy (λ w. call w budget)) .table ≡ t)
-unfolding library.answerFrom
-refused-draw-keeps {call} d s t budget h =
-    let g = generatorIn s t in
-    let unmoved = ap (λ (n : ℕ). later n g) (d .unused (wordsOf g) budget h) ∙ later-none g in
-    refused-keeps s t (number 0 0 refusal.kind) (drawnBy (λ w. call w budget)) h unmoved
 
 -- the draw that every call here stands on
 abbrev one : (r budget least : ℕ) → Words → Outcome

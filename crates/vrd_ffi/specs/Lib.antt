@@ -15,3 +15,4 @@ pub mod DrawLaws
 pub mod PromisesLaws
 pub mod WordLaws
 pub mod CallLaws
+pub mod RefusedKeeps
