@@ -126,22 +126,10 @@ pub(crate) fn zeros() -> Random {
     beside_zeros(Backend::Xoshiro256PlusPlus(Xoshiro256PlusPlus::from_parts(0, 0, 0, 0)))
 }
 
-fn same_backend(a: Backend, b: Backend) -> bool {
-    let x = parts::small_words(a);
-    let y = parts::small_words(b);
-    let small = (x.w0 ^ y.w0) | (x.w1 ^ y.w1) | (x.w2 ^ y.w2) | (x.w3 ^ y.w3);
-    if small != 0 {
-        return false;
-    }
-    parts::kind(a) == parts::kind(b)
-}
-
 // Whether two generators are the same struct: kind, small words, position and the whole table, used or not.
 pub(crate) fn same_generator(a: Random, b: Random) -> bool {
     if a.twister.mti != b.twister.mti {
         return false;
     }
-    let first = a.backend;
-    let second = b.backend;
-    same_backend(first, second) && parts::same_words(&a.twister.mt, &b.twister.mt)
+    parts::same(a, b) && parts::same_words(&a.twister.mt, &b.twister.mt)
 }

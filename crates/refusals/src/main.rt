@@ -1,9 +1,8 @@
 // Runs the library's refusals, on both sides of each edge, and compares whole answers with what document 01 orders. What is tried
 // stands in the table on standard input (the file `stdin` of this crate), a line for each row.
-mod by_value;
 mod calls;
 mod generators;
-mod lent;
+mod listed;
 mod order;
 mod report;
 mod seeds;

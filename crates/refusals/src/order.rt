@@ -1,8 +1,6 @@
-// What document 01 orders of a call, worked out word by word from `rand` and from the order's own sentence: a word w is good below r if
-// (w * r) mod 2^32 is at least 2^32 mod r, and draws the quotient.
-ghost use Prim.Native.Nat.{_≤_};
+// What document 01 orders of a call, worked out word by word from `rand`, by value or over a lent table, and from the order's own sentence:
+// a word w is good below r if (w * r) mod 2^32 is at least 2^32 mod r, and draws the quotient.
 use crate::calls;
-use crate::generators;
 use crate::table::Row;
 use crate::told::Told;
 use crate::told::only;
@@ -36,8 +34,9 @@ fn swap(list: &mut [u32], i: u64, j: u64) {
 
 // Draws one after the other: below r, one less, and so on down to `last`, each from the first good word that is left of the budget,
 // with the swap of a shuffle. The value is the last quotient; where the budget ends first, the refusal is 8.
-fn drawn(g: Random, below: u64, last: u64, budget: u32, list: &mut [u32]) -> Told {
-    let mut next = g;
+pub(crate) fn drawn(g: Random, below: u64, last: u64, budget: u32, list: &mut [u32]) -> Told {
+    let mut e = random::engine_of(g);
+    let mut mt = g.twister.mt;
     let mut used: u32 = 0;
     let mut value: u64 = 0;
     let mut r = below;
@@ -45,9 +44,9 @@ fn drawn(g: Random, below: u64, last: u64, budget: u32, list: &mut [u32]) -> Tol
         if r < last {
             break;
         }
-        let w = random::rand(next);
+        let w = random::next_u32(e, &mut mt);
         let product = wrapping::mul_u64(w.word as u64, r);
-        next = w.next;
+        e = w.next;
         used += 1;
         if is_good(product, r) {
             value = product / TWO_TO_32;
@@ -61,84 +60,63 @@ fn drawn(g: Random, below: u64, last: u64, budget: u32, list: &mut [u32]) -> Tol
             place: 0,
             value,
             used,
-            next,
+            next: random::with_table(e, mt),
         };
     }
     only(8, g)
 }
 
-fn entry(list: &[u32], place: usize) -> u32 {
-    if place < list.len() {
-        return list[place];
-    }
-    0
+// A draw, or none where `below` is 0.
+pub(crate) fn draw(g: Random, below: u64, budget: u32) -> Told {
+    let last = if below == 0 { 1 } else { below };
+    drawn(g, below, last, budget, &mut [0u32; 0])
 }
 
-// What a call makes of the number drawn: `choose` a place and the entry there, `rand_slice` a start, the others a number from `first` on.
-fn answer(call: usize, row: Row, drawn: Told, list: &[u32]) -> Told {
-    let mut told = drawn;
-    let number = drawn.value;
-    match call {
-        calls::CHOOSE => {
-            told.place = number;
-            told.value = entry(list, number as usize) as u64;
-        }
-        calls::RAND_SLICE => {
-            told.place = number;
-            told.value = 0;
-        }
-        calls::SHUFFLE => told.value = 0,
-        _ => told.value = std::num::wrapping_add_u64(row.first.whole, number) % TWO_TO_32,
+// A number from `first` on, of which so many are drawn from.
+fn number(row: Row, g: Random, budget: u32) -> Told {
+    let mut told = draw(g, row.below, budget);
+    if told.refusal == 0 {
+        told.value = std::num::wrapping_add_u64(row.first.whole, told.value) % TWO_TO_32;
     }
     told
 }
 
-pub(crate) fn at_most(n: usize, limit: usize) -> usize
-    ensures { λ r. ⌜ r ≤ limit ⌝ }
-{
-    if n < limit { n } else { limit }
+// How many words a double takes: one of kinds 0 and 3, two of kinds 1 and 2.
+fn words_of_double(kind: u32) -> u32 {
+    match kind {
+        1 | 2 => 2,
+        _ => 1,
+    }
 }
 
-// A call with a budget. A shuffle draws below the length, one less, and so on down to 2, and swaps; the others draw once, or not at all
-// where `below` is 0.
-fn budgeted(call: usize, row: Row, g: Random, budget: u32, list: &mut [u32]) -> Told {
-    let mut last = row.below;
-    let mut swapped: usize = 0;
-    if call == calls::SHUFFLE {
-        last = 2;
-        swapped = list.len();
+// The generator after one word, or two.
+fn after(g: Random, words: u32) -> Random {
+    let once = random::rand(g).next;
+    if words == 1 {
+        return once;
     }
-    if last == 0 {
-        last = 1;
-    }
-    let n = at_most(swapped, list.len());
-    let d = drawn(g, row.below, last, budget, &mut list[0..n]);
-    if d.refusal != 0 {
-        fill(list);
-        return d;
-    }
-    answer(call, row, d, list)
+    random::rand(once).next
 }
 
-// The call on the next double: `bool` whether it is below p, `uniform` low + (high - low) * double. A double takes one word of kinds 0
-// and 3 and two of kinds 1 and 2.
-fn of_double(call: usize, row: Row, g: Random, kind: u32) -> Told {
-    let double = floats::double_of(random::u64(g).word);
-    let mut used: u32 = 1;
-    let mut next = random::rand(g).next;
-    if kind == 1 || kind == 2 {
-        used = 2;
-        next = random::rand(next).next;
-    }
+// The value from a double: `bool` whether it is below p, `uniform` low + (high - low) * double.
+fn value_of(call: usize, row: Row, double: f64) -> u64 {
     let low = row.first.float;
-    let mut told = only(0, next);
     if call == calls::BOOL {
-        told.used = used;
-        told.value = if double < low { 1 } else { 0 };
-        return told;
+        return (double < low) as u64;
     }
-    told.value = float_bits::pattern_of(low + (row.second.float - low) * double);
-    told
+    float_bits::pattern_of(low + (row.second.float - low) * double)
+}
+
+// The call on the next double. `uniform` does not tell the words.
+fn of_double(call: usize, row: Row, g: Random, kind: u32) -> Told {
+    let words = words_of_double(kind);
+    Told {
+        refusal: 0,
+        place: 0,
+        value: value_of(call, row, floats::double_of(random::u64(g).word)),
+        used: if call == calls::BOOL { words } else { 0 },
+        next: after(g, words),
+    }
 }
 
 // The kind's own call from a number.
@@ -172,60 +150,40 @@ fn changed(call: usize, row: Row, g: Random, kind: u32) -> Random {
     Random { backend, twister }
 }
 
-// `split`: on kind 0 the parent jumps; the other kinds refuse. Its value says that the child is right.
-fn split(g: Random, refused: u32) -> Told {
-    let mut told = only(refused, g);
+// The group that a call is answered as, or none where it is refused at any budget: on kind 0 `split` is answered.
+fn answered_as(call: usize, row: Row, kind: u32) -> u32 {
+    let group = calls::group_of(call);
+    if row.refused == 0 {
+        return group;
+    }
+    if group == calls::SPLITS {
+        if kind == 0 {
+            return group;
+        }
+    }
+    calls::NO_GROUP
+}
+
+// `split` on kind 0: the parent jumps.
+fn split(g: Random) -> Random {
     let backend = g.backend;
-    if let Backend::Xoshiro256PlusPlus(x) = backend {
-        let twister = g.twister;
-        let parent = Random {
-            backend: Backend::Xoshiro256PlusPlus(x.jump()),
-            twister,
-        };
-        told = only(0, parent);
-    }
-    told.value = 1;
-    told
-}
-
-// Whether a child of `split` is as ordered: the old generator, or four zero words beside a table of zeros where it was refused.
-pub(crate) fn is_child(child: Random, refusal: u32, g: Random) -> u64 {
-    let right = if refusal == 0 { g } else { generators::zeros() };
-    if generators::same_generator(child, right) {
-        return 1;
-    }
-    0
-}
-
-// The bottle numbers of a list before a call: no two alike, and none 0.
-pub(crate) fn fill(list: &mut [u32]) {
-    let mut n: u32 = 0xB077_0000;
-    let mut i: usize = 0;
-    while i < list.len() {
-        list[i] = n;
-        n = std::num::wrapping_add_u32(n, 7);
-        i += 1;
+    let twister = g.twister;
+    let Backend::Xoshiro256PlusPlus(x) = backend else {
+        return g;
+    };
+    Random {
+        backend: Backend::Xoshiro256PlusPlus(x.jump()),
+        twister,
     }
 }
 
-// The whole answer that is ordered on a generator of this kind; the list, which is filled, holds what it must hold after the call.
-pub(crate) fn ordered(
-    call: usize,
-    row: Row,
-    g: Random,
-    kind: u32,
-    budget: u32,
-    list: &mut [u32],
-) -> Told {
-    if call == calls::SPLIT {
-        return split(g, row.refused);
-    }
-    if row.refused != 0 {
-        return only(row.refused, g);
-    }
-    match call {
-        calls::BOOL | calls::UNIFORM => of_double(call, row, g, kind),
-        calls::SEED | calls::SET_MTI | calls::FILL_BYTES => only(0, changed(call, row, g, kind)),
-        _ => budgeted(call, row, g, budget, list),
+// The whole answer that is ordered on a generator of this kind, but for a call on a list.
+pub(crate) fn ordered(call: usize, row: Row, g: Random, kind: u32, budget: u32) -> Told {
+    match answered_as(call, row, kind) {
+        calls::DOUBLES => of_double(call, row, g, kind),
+        calls::SPLITS => only(0, split(g)),
+        calls::CHANGES => only(0, changed(call, row, g, kind)),
+        calls::NO_GROUP => only(row.refused, g),
+        _ => number(row, g, budget),
     }
 }

@@ -1,12 +1,11 @@
 // Each row of the table, tried on every generator, by value and over a lent table, at budgets on both sides of its need.
-use crate::by_value;
 use crate::calls;
 use crate::generators;
 use crate::generators::GENERATORS;
 use crate::generators::KINDS;
-use crate::lent;
-use crate::order::at_most;
-use crate::order::fill;
+use crate::listed;
+use crate::listed::ROOM;
+use crate::listed::fill;
 use crate::order::ordered;
 use crate::report;
 use crate::report::Tally;
@@ -16,10 +15,6 @@ use crate::table::Row;
 use crate::told::Told;
 use crate::told::same_told;
 use crate::windows;
-use random::Random;
-
-// The entries that there is room for, of this program's own: three more than the longest list of a row, so that a store past its end shows.
-const ROOM: usize = 65540;
 
 // Words that are looked through for a good one, more than two tables of the twister; for a long list as many more as it may have entries.
 const PATIENCE: u32 = 1300;
@@ -30,36 +25,41 @@ const BUDGETS: u32 = 4;
 const TRIES: u32 = 8;
 
 // A call without a budget is tried once in each layer, and so is a row with a budget of its own, on the generators of zeros alone.
-fn is_left_out(call: usize, row: Row, number: u32) -> bool {
-    if calls::has_budget(call) {
+fn is_left_out(call: usize, row: Row, which: u32, number: u32) -> bool {
+    if call <= calls::RAND_SLICE {
         if row.budget == 0 {
             return false;
         }
-        if number / TRIES / KINDS != generators::ZEROS {
+        if which / KINDS != generators::ZEROS {
             return true;
         }
     }
     number % BUDGETS != 0
 }
 
-// What a row needs: the words that it uses where so many may be looked at, and its refusal.
-struct Need {
-    used: u32,
-    refusal: u32,
-}
-
-fn need_of(call: usize, row: Row, which: u32, patience: u32) -> Need {
-    let mut list = [0u32; ROOM];
+// What is ordered where so many words may be looked at.
+fn needed(call: usize, row: Row, which: u32, patience: u32) -> Told {
     let g = generators::generator(which);
-    let told = ordered(call, row, g, which % KINDS, patience, &mut list);
-    Need {
-        used: told.used,
-        refusal: told.refusal,
+    if calls::group_of(call) == calls::LISTS {
+        return listed::needed(call, row, g, patience);
     }
+    ordered(call, row, g, which % KINDS, patience)
 }
 
-// The budgets of a row on a generator: its own, or else one short of what it needs, just that, one more, and the largest. Where it needs
-// no word, or is refused at any budget, or no word is ever good: 0, 1, and two large ones.
+// The budgets around what is needed: one short of it, just that, one more, and the largest. Where no word is needed, or the call is
+// refused at any budget, or no word is ever good: 0, 1, and two large ones.
+fn around(refusal: u32, used: u32, patience: u32) -> [u32; 4] {
+    if refusal == 8 {
+        return [0, 1, PATIENCE, patience];
+    }
+    if used == 0 {
+        return [0, 1, patience, 0xFFFF_FFFF];
+    }
+    let more = std::num::wrapping_add_u32(used, 1);
+    [used - 1, used, more, 0xFFFF_FFFF]
+}
+
+// The budgets of a row on a generator: its own, or else those around what it needs.
 fn budgets_for(call: usize, row: Row, which: u32) -> [u32; 4] {
     if row.budget != 0 {
         return [row.budget; 4];
@@ -69,63 +69,52 @@ fn budgets_for(call: usize, row: Row, which: u32) -> [u32; 4] {
     } else {
         PATIENCE + 65536
     };
-    let need = need_of(call, row, which, patience);
-    if need.refusal == 8 {
-        return [0, 1, PATIENCE, patience];
-    }
-    if need.used > 0 {
-        if need.used < 0xFFFF_FFFF {
-            return [need.used - 1, need.used, need.used + 1, 0xFFFF_FFFF];
-        }
-    }
-    [0, 1, patience, 0xFFFF_FFFF]
+    let told = needed(call, row, which, patience);
+    around(told.refusal, told.used, patience)
 }
 
-// The budgets of a try: those of the try before it, but for a generator's first.
-fn budgets_at(before: [u32; 4], call: usize, row: Row, number: u32) -> [u32; 4] {
-    if number % TRIES != 0 {
-        return before;
-    }
-    budgets_for(call, row, number / TRIES)
-}
-
-// The call on the first entries of the list, which are as many as the row says.
-fn asked(call: usize, row: Row, g: Random, list: &mut [u32], budget: u32, over_lent: bool) -> Told {
-    let n = at_most(row.length, list.len());
-    let part = &mut list[0..n];
-    if over_lent {
-        lent::ask(call, row, g, part, budget)
-    } else {
-        by_value::ask(call, row, g, part, budget)
-    }
-}
-
-// One try: whether the whole answer and the whole list are as ordered, with the entries past the row's own.
-fn try_once(t: Tally, call: usize, row: Row, number: u32, budget: u32) -> Tally {
-    if is_left_out(call, row, number) {
-        return t;
-    }
-    let which = number / TRIES;
+// One try: whether the whole answer is as ordered.
+fn try_once(call: usize, row: Row, which: u32, budget: u32, lent: bool) -> bool {
     let g = generators::generator(which);
-    let mut list = [0u32; ROOM];
-    fill(&mut list);
-    let mut wanted = list;
-    let right = ordered(call, row, g, which % KINDS, budget, &mut wanted);
-    let told = asked(call, row, g, &mut list, budget, number % TRIES >= BUDGETS);
-    let as_ordered = same_told(told, right) && parts::same_words(&list, &wanted);
-    report::counted(t, as_ordered, row.line, number, budget as u64)
+    if calls::group_of(call) == calls::LISTS {
+        return listed::is_as_ordered(call, row, g, budget, lent);
+    }
+    let told = if lent {
+        calls::ask_in(call, row, g, budget)
+    } else {
+        calls::ask(call, row, g, budget)
+    };
+    same_told(told, ordered(call, row, g, which % KINDS, budget))
+}
+
+// A try's number among all tries of its row.
+fn try_at(which: u32, number: u32) -> u32 {
+    std::num::wrapping_add_u32(wrapping::mul_u32(which, TRIES), number)
+}
+
+// The tries of a row on a generator.
+fn try_on(t: Tally, call: usize, row: Row, which: u32) -> Tally {
+    let budgets = budgets_for(call, row, which);
+    let mut tally = t;
+    let mut number: u32 = 0;
+    while number < TRIES {
+        if !is_left_out(call, row, which, number) {
+            let budget = budgets[(number % BUDGETS) as usize];
+            let right = try_once(call, row, which, budget, number >= BUDGETS);
+            tally = report::counted(tally, right, row.line, try_at(which, number), budget as u64);
+        }
+        number += 1;
+    }
+    tally
 }
 
 // A row of a call that draws from a generator or changes it.
 fn try_call(call: usize, row: Row) -> Tally {
-    let mut budgets = [0u32; 4];
     let mut t = report::none();
-    let mut number: u32 = 0;
-    while number < GENERATORS * TRIES {
-        budgets = budgets_at(budgets, call, row, number);
-        let budget = budgets[(number % BUDGETS) as usize];
-        t = try_once(t, call, row, number, budget);
-        number += 1;
+    let mut which: u32 = 0;
+    while which < GENERATORS {
+        t = try_on(t, call, row, which);
+        which += 1;
     }
     t
 }
@@ -142,11 +131,13 @@ fn try_row(call: usize, row: Row) -> Tally {
     if row.length > ROOM - 3 {
         return report::one(false, row.line);
     }
+    if call < calls::MAKE {
+        return try_call(call, row);
+    }
     match call {
-        calls::NONE => report::one(false, row.line),
         calls::MAKE => seeds::try_row(row),
         calls::WINDOW_OF => try_window(row),
-        _ => try_call(call, row),
+        _ => report::one(false, row.line),
     }
 }
 

@@ -5,10 +5,10 @@ use Rattle.refusals.proofs.calls.number_at.Statement.{statement}
 use Rattle.refusals.proofs.calls.number_at.Tie as tie
 
 abbrev Inv-loop : tie.InvT-loop
-Inv-loop text at names name call₀ call = call ≤ 17
+Inv-loop text at names name count call₀ call = (call ≤ count) × (count ≤ 1000000)
 
 abbrev μ-loop : tie.MeasureT-loop
-μ-loop text at names name call₀ call = 17 - call
+μ-loop text at names name count call₀ call = count - call
 
 le-u64-requires : tie.Need-le-u64-requires Inv-loop μ-loop
 le-u64-requires c κs = search needs
@@ -22,9 +22,6 @@ mul-le-u64 c = search needs
 le-u64-requires-2 : tie.Need-le-u64-requires-2 Inv-loop μ-loop
 le-u64-requires-2 c κs = search needs
 
-returns : tie.Need-returns Inv-loop μ-loop
-returns c = search needs
-
 add-call : tie.Need-add-call Inv-loop μ-loop
 add-call c = search needs
 
@@ -33,6 +30,9 @@ loop-less c = search needs
 
 loop-again : tie.Need-loop-again Inv-loop μ-loop
 loop-again c = search needs
+
+returns : tie.Need-returns Inv-loop μ-loop
+returns c = search needs
 
 returns-2 : tie.Need-returns-2 Inv-loop μ-loop
 returns-2 c = search needs
@@ -47,8 +47,8 @@ number-at-spec =
     loop-holds
     mul-le-u64
     le-u64-requires-2
-    returns
     add-call
     loop-less
     loop-again
+    returns
     returns-2)

@@ -7,17 +7,19 @@ use Rattle.refusals.proofs.order.drawn.Statement.{statement}
 use Rattle.refusals.proofs.order.drawn.Tie as tie
 
 abbrev Inv-loop : tie.InvT-loop
-Inv-loop g below last budget list₀ next₀ used₀ value₀ r₀ list next used value r =
-    (used ≤ budget) × (r < 18446744073709551616) × (length list ≡ length list₀)
+Inv-loop g below last budget list₀ e₀ mt₀ used₀ value₀ r₀ list e mt used value r = (used ≤ budget) × (r < 18446744073709551616) × (length list ≡ length list₀)
 
 abbrev μ-loop : tie.MeasureT-loop
-μ-loop g below last budget list₀ next₀ used₀ value₀ r₀ list next used value r = budget - used
+μ-loop g below last budget list₀ e₀ mt₀ used₀ value₀ r₀ list e mt used value r = budget - used
+
+engine-of-requires : tie.Need-engine-of-requires Inv-loop μ-loop
+engine-of-requires c κs = search needs
 
 loop-holds : tie.Need-loop-holds Inv-loop μ-loop
 loop-holds c = search needs
 
-rand-requires : tie.Need-rand-requires Inv-loop μ-loop
-rand-requires c κs = search needs
+next-u32-requires : tie.Need-next-u32-requires Inv-loop μ-loop
+next-u32-requires c κs = search needs
 
 cast-mul-u64 : tie.Need-cast-mul-u64 Inv-loop μ-loop
 cast-mul-u64 c = search needs
@@ -49,6 +51,9 @@ loop-less-2 c = search needs
 loop-again-2 : tie.Need-loop-again-2 Inv-loop μ-loop
 loop-again-2 c = search needs
 
+with-table-requires : tie.Need-with-table-requires Inv-loop μ-loop
+with-table-requires c κs = search needs
+
 same-length : tie.Need-same-length Inv-loop μ-loop
 same-length c = search needs
 
@@ -70,8 +75,9 @@ drawn-spec =
     (tie.spec
     Inv-loop
     μ-loop
+    engine-of-requires
     loop-holds
-    rand-requires
+    next-u32-requires
     cast-mul-u64
     mul-u64-requires
     add-used
@@ -82,6 +88,7 @@ drawn-spec =
     loop-again
     loop-less-2
     loop-again-2
+    with-table-requires
     same-length
     returns
     only-requires

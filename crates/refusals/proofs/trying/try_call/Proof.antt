@@ -1,14 +1,14 @@
--- `try_call` is safe and ends: the tries rise to their number.
+-- `try_call` is safe and ends: the generators rise to their number.
 use Prim.Native.Nat.{_≤_, _-_}
 use borrow.Author.Needs.{needs}
 use Rattle.refusals.proofs.trying.try_call.Statement.{statement}
 use Rattle.refusals.proofs.trying.try_call.Tie as tie
 
 abbrev Inv-loop : tie.InvT-loop
-Inv-loop call row budgets₀ t₀ number₀ budgets t number = number ≤ 128
+Inv-loop call row t₀ which₀ t which = which ≤ 16
 
 abbrev μ-loop : tie.MeasureT-loop
-μ-loop call row budgets₀ t₀ number₀ budgets t number = 128 - number
+μ-loop call row t₀ which₀ t which = 16 - which
 
 none-requires : tie.Need-none-requires Inv-loop μ-loop
 none-requires c κs = search needs
@@ -16,26 +16,11 @@ none-requires c κs = search needs
 loop-holds : tie.Need-loop-holds Inv-loop μ-loop
 loop-holds c = search needs
 
-mul-loop : tie.Need-mul-loop Inv-loop μ-loop
-mul-loop c = search needs
+try-on-requires : tie.Need-try-on-requires Inv-loop μ-loop
+try-on-requires c κs = search needs
 
-budgets-at-requires : tie.Need-budgets-at-requires Inv-loop μ-loop
-budgets-at-requires c κs = search needs
-
-cast-budget : tie.Need-cast-budget Inv-loop μ-loop
-cast-budget c = search needs
-
-mul-budget : tie.Need-mul-budget Inv-loop μ-loop
-mul-budget c = search needs
-
-array-read-budget : tie.Need-array-read-budget Inv-loop μ-loop
-array-read-budget c = search needs
-
-try-once-requires : tie.Need-try-once-requires Inv-loop μ-loop
-try-once-requires c κs = search needs
-
-add-number : tie.Need-add-number Inv-loop μ-loop
-add-number c = search needs
+add-which : tie.Need-add-which Inv-loop μ-loop
+add-which c = search needs
 
 loop-less : tie.Need-loop-less Inv-loop μ-loop
 loop-less c = search needs
@@ -54,13 +39,8 @@ try-call-spec =
     μ-loop
     none-requires
     loop-holds
-    mul-loop
-    budgets-at-requires
-    cast-budget
-    mul-budget
-    array-read-budget
-    try-once-requires
-    add-number
+    try-on-requires
+    add-which
     loop-less
     loop-again
     returns)

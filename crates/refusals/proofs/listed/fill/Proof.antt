@@ -4,8 +4,8 @@ use mathlib.Core.Path.{_≡_}
 use Prim.Native.Nat.{_≤_, _-_}
 use native.Mathlib.Omega.{arith}
 use borrow.Author.Needs.{needs}
-use Rattle.refusals.proofs.order.fill.Statement.{statement}
-use Rattle.refusals.proofs.order.fill.Tie as tie
+use Rattle.refusals.proofs.listed.fill.Statement.{statement}
+use Rattle.refusals.proofs.listed.fill.Tie as tie
 
 abbrev Inv-loop : tie.InvT-loop
 Inv-loop list₀ n₀ i₀ list n i = (i ≤ length list) × (length list ≡ length list₀)
