@@ -1,6 +1,6 @@
 // A generator moved by a word in place. The small words are read and written one by one and handed on as numbers: copied as a whole, just
-// after they were written, they would hold up every call. The kinds are taken two and two: functions of this size are merged into every call
-// that stands on them, and one over all four kinds would not be.
+// after they were written, they would hold up every call. The kinds are taken two and two: functions of this size are merged into every
+// call that stands on them, and one over all four kinds would not be.
 ghost use mathlib.Core.Path.{_≡_};
 ghost use Prim.Native.Nat.{_≤_};
 ghost use Rattle.vrd_ffi.specs.Moves.{Moves32, Moves64, MovesWide, IsWide, IsNarrow, Widths};

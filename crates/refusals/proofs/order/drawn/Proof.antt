@@ -7,7 +7,8 @@ use Rattle.refusals.proofs.order.drawn.Statement.{statement}
 use Rattle.refusals.proofs.order.drawn.Tie as tie
 
 abbrev Inv-loop : tie.InvT-loop
-Inv-loop g below last budget list₀ e₀ mt₀ used₀ value₀ r₀ list e mt used value r = (used ≤ budget) × (r < 18446744073709551616) × (length list ≡ length list₀)
+Inv-loop g below last budget list₀ e₀ mt₀ used₀ value₀ r₀ list e mt used value r =
+    (used ≤ budget) × (r < 18446744073709551616) × (length list ≡ length list₀)
 
 abbrev μ-loop : tie.MeasureT-loop
 μ-loop g below last budget list₀ e₀ mt₀ used₀ value₀ r₀ list e mt used value r = budget - used

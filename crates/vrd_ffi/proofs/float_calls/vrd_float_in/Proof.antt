@@ -44,7 +44,8 @@ float-of-requires-2 c κs = search needs
 returns-3 : tie.Need-returns-3
 returns-3 c =
     let move = c .before in
-    rw (c .float-of2 .ensures) (float-moved _ _ (move .before .before .before .before .before .before .if1 .left) (move .move-narrow .ensures))
+    let known = move .before .before .before .before .before .before .if1 .left in
+    rw (c .float-of2 .ensures) (float-moved _ _ known (move .move-narrow .ensures))
 
 pub vrd-float-in-spec : {M : Type 1} → statement M
 vrd-float-in-spec =
