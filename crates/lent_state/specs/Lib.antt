@@ -2,6 +2,7 @@
 -- writing promise, and the laws.
 pub mod State
 pub mod Answers
+pub mod Placing
 pub mod Promises
 pub mod AnswersLaws
 pub mod PromisesLaws

@@ -5,8 +5,11 @@ use mathlib.Core.Path.{_≡_}
 use Rattle.pcg.specs.declared.pcg32.Pcg32.{Pcg32}
 use Rattle.pcg.specs.declared.pcg64.Pcg64.{Pcg64}
 use Rattle.xoshiro.specs.declared.Xoshiro256PlusPlus.{Xoshiro256PlusPlus}
+use Rattle.random.specs.declared.backend.Random.{Random}
 use Rattle.random.specs.declared.engine.Engine.{Engine}
 use Rattle.lent_state.specs.declared.reading.Held.{Held}
+use Rattle.lent_state.specs.Answers.{told}
+use Rattle.lent_state.specs.Placing.{placed}
 use Rattle.lent_state.specs.State.{positionIn, xoshiroIn, pcg32In, pcg64In, heldIn}
 use Rattle.lent_state.specs.State.{smallState, positionState, stateWith, stateAfter, stateOf}
 
@@ -53,3 +56,7 @@ LentSettlePromise refused e s s′ = s′ ≡ stateAfter refused e s
 -- an engine in a state that is made anew
 abbrev pub LentBeginPromise : Engine → List ℕ → Type 0
 LentBeginPromise e s′ = s′ ≡ stateOf e
+
+-- a generator that was made in the state and the table, or nothing where the making was refused
+abbrev pub LentPlacePromise : (refused : ℕ) → Random → List ℕ → List ℕ → ℕ → List ℕ → List ℕ → Type 0
+LentPlacePromise refused g s t r s′ t′ = told r s′ t′ ≡ placed s t refused g

@@ -5,10 +5,12 @@ use mathlib.Core.Path.{_≡_, sym, _∙_}
 use Rattle.pcg.specs.declared.pcg32.Pcg32.{Pcg32}
 use Rattle.pcg.specs.declared.pcg64.Pcg64.{Pcg64}
 use Rattle.xoshiro.specs.declared.Xoshiro256PlusPlus.{Xoshiro256PlusPlus}
+use Rattle.random.specs.declared.backend.Random.{Random}
 use Rattle.random.specs.declared.engine.Engine.{Engine}
 use Rattle.lent_state.specs.declared.reading.Held.{Held}
 use Rattle.lent_state.specs.Promises.{PositionPromise, XoshiroInPromise, Pcg32InPromise, Pcg64InPromise, HeldInPromise}
-use Rattle.lent_state.specs.Promises.{PutSmallPromise, PutPositionPromise, WritePromise, LentSettlePromise, LentBeginPromise}
+use Rattle.lent_state.specs.Promises.{PutSmallPromise, PutPositionPromise, WritePromise, LentSettlePromise, LentBeginPromise, LentPlacePromise}
+use Rattle.lent_state.specs.AnswersLaws.{told-apart}
 
 module _ (s : List ℕ) where
   pub one-position : {a b : ℕ} → PositionPromise s a → PositionPromise s b → a ≡ b
@@ -41,3 +43,7 @@ module _ (s : List ℕ) {s₁ s₂ : List ℕ} where
 
 pub one-lent-begin : (e : Engine) {s₁ s₂ : List ℕ} → LentBeginPromise e s₁ → LentBeginPromise e s₂ → s₁ ≡ s₂
 one-lent-begin e p q = p ∙ sym q
+
+pub one-lent-place : (refused : ℕ) (g : Random) (s t : List ℕ) {a b : ℕ} {s₁ s₂ t₁ t₂ : List ℕ}
+    → LentPlacePromise refused g s t a s₁ t₁ → LentPlacePromise refused g s t b s₂ t₂ → (a ≡ b) × (s₁ ≡ s₂) × (t₁ ≡ t₂)
+one-lent-place refused g s t p q = told-apart (p ∙ sym q)

@@ -1,4 +1,4 @@
--- The calls over lists and buffers, makings, splitting and equality: what the code builds of what the library answers.
+-- The calls over lists and buffers, splitting and equality: what the code builds of what the library answers.
 use Prim.Native.Nat.{ℕ, _≤_, _<_}
 use native.Mathlib.Omega.{arith}
 use borrow.Author.Tests.{eq-eqb, ne-eqb}
@@ -8,16 +8,13 @@ use mathlib.Core.List.{List}
 use mathlib.Core.Path.{_≡_, refl, sym, _∙_, ap, ap₂}
 use Rattle.words.specs.Refusal as refusal
 use Rattle.random.specs.Generator.{later, wordsOf}
-use Rattle.random.specs.Lent.{joinedWith, tableIn}
-use Rattle.random.specs.TableKept.{onTable}
+use Rattle.random.specs.Lent.{joinedWith}
 use Rattle.random.specs.declared.backend.Random.{Random}
 use Rattle.random.specs.declared.engine.Engine.{Engine}
 use Rattle.bounded.specs.Answers as library
 use Rattle.bounded.specs.declared.answers.Answer.{Answer}
 use Rattle.bounded.specs.declared.answers.EngineAnswer.{EngineAnswer}
 use Rattle.filling.specs.Fill.{FilledFrom, filledBytes, fillWords}
-use Rattle.making.specs.Make.{madeBytes}
-use Rattle.making.specs.declared.bytes.Made.{Made}
 use Rattle.parts.specs.Decides.{Decides, decides-no}
 use Rattle.parts.specs.OwnParts.{ownParts}
 use Rattle.parts.specs.Splitting.{engineSplit}
@@ -26,8 +23,8 @@ use Rattle.shuffle.specs.Shuffle.{shuffleBy, shuffled}
 use Rattle.vrd_ffi.specs.declared.answers.Number.{Number}
 use Rattle.lent_state.specs.Answers.{told, gives, formed, ofKnown}
 use Rattle.lent_state.specs.AnswersLaws.{of-known, of-unknown, settled, wrote}
-use Rattle.vrd_ffi.specs.Handed.{number, numberOf, drawnBy, listed, stateMade, made, halves, divided, sameRefusal, Equal}
-use Rattle.vrd_ffi.specs.Promises.{VrdShufflePromise, VrdFillBytesPromise, VrdMakePromise, VrdSplitPromise, VrdSamePromise}
+use Rattle.vrd_ffi.specs.Handed.{number, numberOf, drawnBy, listed, halves, divided, sameRefusal, Equal}
+use Rattle.vrd_ffi.specs.Promises.{VrdShufflePromise, VrdFillBytesPromise, VrdSplitPromise, VrdSamePromise}
 use Rattle.lent_state.specs.State.{kindIn, engineFrom, generatorIn, stateWith, stateAfter, stateOf}
 
 -- ---- lists and buffers
@@ -46,19 +43,6 @@ module _ (s t : List ℕ) (k : kindIn s ≤ 3) (u s′ : List ℕ) where
   bytes-filled dest bytes e h w =
       wrote s t _ _ k (listed refusal.answered bytes) e u s′ w
       (ap₂ (λ (b : List ℕ) (g : Random). gives (listed refusal.answered b) g) (h .content) (h .after))
-
--- ---- makings of bytes
-
-module _ (s t : List ℕ) (kind : ℕ) (seed : List ℕ) (m : Made) (q : m ≡ madeBytes kind seed) where
-  pub make-refused : (m .refusal ≡ 0 → ⊥) → VrdMakePromise s t kind seed (m .refusal) s t
-  make-refused h = rw (sym q) (rw (ne-eqb (m .refusal) 0 h))
-
-  module _ (z : m .refusal ≡ 0) (s′ : List ℕ) (w : s′ ≡ stateMade (m .generator)) where
-    pub make-small : onTable (m .generator .backend) ≡ false → VrdMakePromise s t kind seed 0 s′ t
-    make-small h = rw (sym q) (rw (w, eq-eqb (m .refusal) 0 z, h))
-
-    pub make-twister : onTable (m .generator .backend) ≡ true → VrdMakePromise s t kind seed 0 s′ (tableIn (m .generator))
-    make-twister h = rw (sym q) (rw (w, eq-eqb (m .refusal) 0 z, h))
 
 -- ---- splitting
 

@@ -39,7 +39,7 @@ use Rattle.lent_state.specs.AnswersLaws.{same-reply, told-formed}
 use Rattle.vrd_ffi.specs.Choosing.{entryOf}
 use Rattle.vrd_ffi.specs.Counting.{counted, countedModulo}
 use Rattle.vrd_ffi.specs.Handed.{number, integer, choice, numberOf, integerOf, choiceOf, startOf, drawnBy, countedBy}
-use Rattle.vrd_ffi.specs.Packed.{unpacked, Drew, Draws, Below}
+use Rattle.vrd_ffi.specs.Packed.{unpacked, Drew, Below}
 use Rattle.lent_state.specs.State.{generatorIn}
 
 -- nothing added changes nothing
@@ -139,10 +139,10 @@ counted-exact {min} {max} a f f′ small = go (eqb (a .refusal) 0) refl
         rw (e, whole, sum)
     go false e = rw e
 
-module _ (s t : List ℕ) {min max : ℤ} (f : SFits w32 min) (f′ : SFits w32 max) (last budget p : ℕ) where
+module _ (s t : List ℕ) {min max : ℤ} (f : SFits w32 min) (f′ : SFits w32 max) (last budget : ℕ) (a : Number) where
   pub integer-drawn : ltZ max min ≡ false → last ≡ gap min max → 0 < last → last < 2 ^ 32 → {s′ u : List ℕ}
-      → Draws s t (last + 1) budget 0 p s′ u → Below (last + 1) 0 p
-      → told (countedModulo min (unpacked p)) s′ u
+      → Drew s t (last + 1) budget 0 a s′ u → (a .refusal ≡ 0 → a .value < last + 1)
+      → told (countedModulo min a) s′ u
       ≡ atBoundary s t (integer (pos 0) 0 refusal.kind) (countedBy (λ w. intBy w min max budget))
   unfolding intAnswerFrom countedFrom signedBy workedOn library.answerFrom
   integer-drawn order far wide small {s′} {u} d below =
@@ -150,7 +150,7 @@ module _ (s t : List ℕ) {min max : ℤ} (f : SFits w32 min) (f′ : SFits w32 
       let w = wordsOf g in
       let same : one (last + 1) budget 0 w ≡ spanBy w (gap min max) budget =
       raised-zero (boundedBy w (last + 1) budget) ∙ sym (span-drawn w last budget wide) ∙ ap (λ (n : ℕ). spanBy w n budget) far in
-      ap (λ (a : _). told a s′ u) (counted-exact (unpacked p) f f′ (λ z. let b = below z in (omega arith, rw (sym far) (omega arith))))
+      ap (λ (a : _). told a s′ u) (counted-exact a f f′ (λ z. let b = below z in (omega arith, rw (sym far) (omega arith))))
       ∙ told-formed s t (number 0 0 refusal.kind) (drawnBy (one (last + 1) budget 0)) (counted min) d
       ∙ same-reply s t _ (λ g. formed (counted min) (drawnBy (one (last + 1) budget 0) g)) _
       (ap (λ (o : Outcome). formed (counted min) (numberOf (library.answerFrom g o))) same

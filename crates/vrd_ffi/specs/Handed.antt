@@ -11,8 +11,6 @@ use Rattle.words.specs.declared.outcome.Outcome.{Outcome}
 use Rattle.words.specs.Draw.{Words}
 use Rattle.words.specs.Refusal as refusal
 use Rattle.random.specs.Generator.{wordsOf}
-use Rattle.random.specs.Lent.{engineIn, tableIn}
-use Rattle.random.specs.TableKept.{onTable}
 use Rattle.random.specs.declared.backend.Random.{Random}
 use Rattle.random.specs.declared.by_value.Signed64.{Signed64}
 use Rattle.random.specs.declared.by_value.Word32.{Word32}
@@ -42,7 +40,8 @@ use Rattle.vrd_ffi.specs.declared.answers.Number32.{Number32}
 use Rattle.vrd_ffi.specs.declared.answers.Number64.{Number64}
 use Rattle.vrd_ffi.specs.declared.answers.SignedWord.{SignedWord}
 use Rattle.vrd_ffi.specs.declared.answers.Word.{Word}
-use Rattle.lent_state.specs.Answers.{Told, told, Reply, reply, gives, ofKnown}
+use Rattle.lent_state.specs.Answers.{Told, Reply, reply, gives, ofKnown}
+use Rattle.lent_state.specs.Placing.{placed}
 use Rattle.lent_state.specs.State.{kindIn, generatorIn, stateWith, stateOf}
 
 -- ---- words
@@ -161,19 +160,9 @@ listed a l = record { answer = a; list = l }
 
 -- ---- generators made
 
--- a generator written to a state that is made anew
-abbrev pub stateMade : Random → List ℕ
-stateMade g = stateOf (engineIn g)
-
--- the table is the twister's alone: every other generator that is made leaves it as it came
-abbrev pub tableMade : Random → List ℕ → List ℕ
-tableMade g t = cond (onTable (g .backend)) (tableIn g) t
-
 -- what the library made of bytes; refused, nothing changes
 abbrev pub made : List ℕ → List ℕ → Made → Told ℕ
-made s t m =
-    cond (eqb (m .refusal) refusal.answered) (told refusal.answered (stateMade (m .generator)) (tableMade (m .generator) t))
-    (told (m .refusal) s t)
+made s t m = placed s t (m .refusal) (m .generator)
 
 -- ---- two generators of one: the refusal, and both states
 

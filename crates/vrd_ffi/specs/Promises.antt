@@ -45,7 +45,8 @@ use Rattle.lent_state.specs.Answers.{told, gives, formed, ofKnown, atBoundary}
 use Rattle.vrd_ffi.specs.Handed.{word, signedWord, number, integer, choice, number32, number64, coin, zero32, zero64}
 use Rattle.vrd_ffi.specs.Handed.{wordOf32, wordOf64, signedOf64, drawnBy, countedBy, choiceOf, startOf}
 use Rattle.vrd_ffi.specs.Handed.{floatOf, doubleOf, coinOf, spreadOf}
-use Rattle.vrd_ffi.specs.Handed.{Listed, listed, stateMade, made, halves, divided, sameRefusal, Equal}
+use Rattle.vrd_ffi.specs.Handed.{Listed, listed, made, halves, divided, sameRefusal, Equal}
+use Rattle.lent_state.specs.Placing.{stateMade}
 use Rattle.lent_state.specs.State.{backendIn, positionIn, engineFrom}
 
 -- ---- words

@@ -3,7 +3,7 @@
 use Prim.Native.Nat.{ℕ}
 use native.Mathlib.Decide.{decLe}
 use native.Mathlib.Nat.{lt-of-not-le}
-use borrow.Author.Tests.{ne-eqb}
+use borrow.Author.Tests.{eqb-true, ne-eqb}
 use lib.Dec.{eqb}
 use lib.Ieee.{Float}
 use lib.IntN.{ℤ}
@@ -231,7 +231,7 @@ module _ {s t s′ t′ : List ℕ} where
   make-keeps kind seed {r} p h = go (madeBytes kind seed) (eqb (madeBytes kind seed .refusal) refusal.answered) refl p
     where
       go : (m : Made) (b : Bool) → eqb (m .refusal) refusal.answered ≡ b → told r s′ t′ ≡ made s t m → (s′ ≡ s) × (t′ ≡ t)
-      go m true e q = absurd (h (ap (λ (x : Told ℕ). x .answer) (rw e at q)))
+      go m true e q = absurd (h (ap (λ (x : Told ℕ). x .answer) (rw e at q) ∙ eqb-true (m .refusal) refusal.answered e))
       go m false e q =
           let same = rw e at q in
           (ap (λ (x : Told ℕ). x .state) same, ap (λ (x : Told ℕ). x .table) same)

@@ -4,9 +4,13 @@ ghost use Rattle.vrd_ffi.specs.Counting.{countedModulo, integerIn};
 ghost use Rattle.vrd_ffi.specs.Promises.{VrdIntPromise, VrdRangePromise};
 use crate::answers::Integer;
 use crate::answers::Number;
-use crate::drawing::drawn_from;
+use crate::drawing::at_once;
+use crate::drawing::by_library;
 use crate::drawing::number_of;
 use crate::first_word::MISS;
+use crate::first_word::below_within;
+use crate::first_word::quick_first;
+use crate::first_word::quick_pcg;
 use crate::state::engine_in;
 use lent_state::settle;
 use spans::IntEngineAnswer;
@@ -66,7 +70,7 @@ fn counted(min: i32, a: Number) -> Integer
     }
 }
 
-// A number from min up to max. What one word settled is told apart, so that the common answer has constants in it.
+// A number from min up to max: by its first word, of either pair of kinds, or by the library.
 fn int_drawn(
     state: &mut [u64; 6],
     table: &mut [u32; 624],
@@ -86,16 +90,17 @@ fn int_drawn(
     if last == 0xFFFF_FFFF {
         return int_by_library(state, table, min, max, budget);
     }
-    let p = drawn_from(state, table, last + 1, budget, 0);
-    if p < MISS {
-        let one = Number {
-            value: p,
-            used: 1,
-            refusal: refusal::ANSWERED,
-        };
-        return counted(min, one);
+    let r = last + 1;
+    let tried = below_within(r, budget);
+    let first = quick_first(state, table, tried);
+    if first < MISS {
+        return counted(min, at_once(first));
     }
-    counted(min, number_of(p))
+    let second = quick_pcg(state, tried);
+    if second < MISS {
+        return counted(min, at_once(second));
+    }
+    counted(min, number_of(by_library(state, table, r, budget, 0)))
 }
 
 // A number from min up to max.

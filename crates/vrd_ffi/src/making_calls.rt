@@ -4,8 +4,8 @@ ghost use Rattle.vrd_ffi.specs.Promises.{VrdMakePromise, VrdXoshiroWithS
 ghost use Rattle.vrd_ffi.specs.Promises.{VrdPcg32WithSeedPromise, VrdPcg64WithSeedPromise};
 ghost use Rattle.vrd_ffi.specs.Promises.{VrdPcg32WithStreamPromise, VrdPcg64WithStreamPromise};
 use lent_state::begin;
+use lent_state::place;
 use random::engine_of;
-use words::refusal;
 use wrapping::Wide;
 
 // Of bytes. The answer is the refusal: 10 for a kind above 3, then 11. A refused making changes nothing.
@@ -20,18 +20,8 @@ pub extern "C" fn vrd_make_in(
         (now (state .exit)) (now (table .exit)) ⌝ }
 {
     let m = making::make(kind, seed);
-    if m.refusal != refusal::ANSWERED {
-        return m.refusal;
-    }
     let g = m.generator;
-    begin(engine_of(g), state);
-    let backend = g.backend;
-    if random::on_table(backend) {
-        let mt = g.twister.mt;
-        *table = mt;
-        return refusal::ANSWERED;
-    }
-    refusal::ANSWERED
+    place(m.refusal, g, state, table)
 }
 
 // Of a seed number, kind 0.

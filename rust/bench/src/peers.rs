@@ -1,10 +1,14 @@
-//! Generators that others have written, timed in the port's place in the same run: std::mt19937, and pcg32 and pcg64 of pcg-cpp, as far
-//! as the build script found them. Their words are compared with the original's.
+//! Generators that others have written, timed in the port's place in the same run: std::mt19937, pcg32 and pcg64 of pcg-cpp, and those of
+//! the crates rand_xoshiro and rand_pcg, as far as the build script found them. Their words are compared with the original's.
+
+#[cfg(peer_rand)]
+#[path = "rand_peers.rs"]
+mod rand_peers;
 
 use crate::timing::{timed, Case, Limit, Run};
 
-/// A peer: its name, its kind, the original's loop, and the peer's.
-type Peer = (&'static str, &'static str, fn(u64, u64) -> Run, extern "C" fn(u64, u64) -> u64);
+/// A peer: its name, its kind, the original's loop, and the peer's: the XOR of n words from a seed.
+type Peer = (&'static str, &'static str, fn(u64, u64) -> Run, fn(u64, u64) -> u64);
 
 #[cfg(peer_mt19937)]
 unsafe extern "C" {
@@ -21,12 +25,18 @@ unsafe extern "C" {
 pub const NOTE: &str = env!("BENCH_PEERS");
 
 const PEERS: &[Peer] = &[
+    #[cfg(peer_rand)]
+    ("word, loop: peer rand_xoshiro", "Xoshiro256PlusPlus", crate::words::xoshiro, rand_peers::xoshiro),
     #[cfg(peer_mt19937)]
-    ("word, loop: peer std::mt19937", "MersenneTwister", crate::words::twister, peer_mt19937),
+    ("word, loop: peer std::mt19937", "MersenneTwister", crate::words::twister, |seed, n| peer_mt19937(seed, n)),
     #[cfg(peer_pcg)]
-    ("word, loop: peer pcg32", "Pcg32", crate::words::pcg32, peer_pcg32),
+    ("word, loop: peer pcg32 of pcg-cpp", "Pcg32", crate::words::pcg32, |seed, n| peer_pcg32(seed, n)),
+    #[cfg(peer_rand)]
+    ("word, loop: peer rand_pcg", "Pcg32", crate::words::pcg32, rand_peers::pcg32),
     #[cfg(peer_pcg)]
-    ("word, loop: peer pcg64", "Pcg64", crate::words::pcg64, peer_pcg64),
+    ("word, loop: peer pcg64 of pcg-cpp", "Pcg64", crate::words::pcg64, |seed, n| peer_pcg64(seed, n)),
+    #[cfg(peer_rand)]
+    ("word, loop: peer rand_pcg", "Pcg64", crate::words::pcg64, rand_peers::pcg64),
 ];
 
 /// A peer tells the word alone, not its state; its seeding is timed with its words, of which there are many.

@@ -42,7 +42,7 @@ fn with(word: u64, mut parts: Vec<u64>) -> Vec<u64> {
     parts
 }
 
-fn xoshiro(seed: u64, n: u64) -> Run {
+pub fn xoshiro(seed: u64, n: u64) -> Run {
     timed(Xoshiro256PlusPlus::from_u64_seed(seed), |g| xor(g, n, Xoshiro256PlusPlus::next_u64), |word, g| with(word, g.parts().into()))
 }
 
