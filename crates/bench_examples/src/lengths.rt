@@ -68,7 +68,18 @@ fn rand_slice(t: Tally, list: &[u32], says: Told) -> Tally {
     report::judged_with(t, given, report::same(told, says))
 }
 
-// Seed 1 of kind 0 has words enough. Answered, the order is another one; refused, no word is used and the list is as it came.
+// Answered, the order is another one; refused, no word is used and the list is as it came.
+fn is_right(told: Told, kept: bool, says: Told) -> bool {
+    if told.refusal != says.refusal {
+        return false;
+    }
+    if told.refusal == words::refusal::ANSWERED {
+        return if kept { false } else { told.used > 0 };
+    }
+    if kept { told.used == 0 } else { false }
+}
+
+// Seed 1 of kind 0 has words enough.
 fn shuffle(t: Tally, list: &mut [u32], says: Told) -> Tally {
     let mut mt = [0u32; 624];
     let x = Xoshiro256PlusPlus::from_u64_seed(1);
@@ -77,14 +88,7 @@ fn shuffle(t: Tally, list: &mut [u32], says: Told) -> Tally {
     let told = report::of_answer(a);
     tell_length(b"shuffle", list.len());
     report::draw(told);
-    let kept = are_places(list);
-    if a.refusal != says.refusal {
-        return report::judged(t, false);
-    }
-    if a.refusal == words::refusal::ANSWERED {
-        return report::judged_with(t, !kept, a.used > 0);
-    }
-    report::judged_with(t, kept, a.used == 0)
+    report::judged(t, is_right(told, are_places(list), says))
 }
 
 fn every_call(t: Tally, list: &mut [u32], says: Told) -> Tally {

@@ -66,10 +66,14 @@ module _ (s : Words) (first : ℕ) (falls : Bool) (count budget : ℕ) where
       → Rehearsing s first falls count budget (taken + n)
   rehearsing-on taken zero h m u = rw add-zero h
   rehearsing-on taken (suc n) h m u =
-      let before = rehearsing-on taken n h (omega arith) (omega arith) in
       let few = settled-few s first falls taken n in
-      let one : taken + suc n ≡ taken + n + 1 = omega arith in
-      rw one (one-more (taken + n) (good (boundLeft s first falls (taken + n)) (s (taken + n))) refl before (omega arith) (omega arith))
+      let more : settledAfter s first falls (taken + n) < count = omega (arith, few, m) in
+      let room : taken + n < budget = omega (arith, u) in
+      let before = rehearsing-on taken n h (omega (arith, m)) (omega (arith, u)) in
+      transport-on (one-more (taken + n) (good (boundLeft s first falls (taken + n)) (s (taken + n))) refl before more room)
+    where
+      transport-on : Rehearsing s first falls count budget (taken + n + 1) → Rehearsing s first falls count budget (taken + suc n)
+      transport-on r = let one : taken + suc n ≡ taken + n + 1 = omega arith in rw one r
 
   module _ (taken : ℕ) (h : Rehearsing s first falls count budget taken) where
     -- No more words are taken than the budget has.
