@@ -7,7 +7,7 @@ use std::process::Command;
 /// Where Debian's packages librust-rand-xoshiro-dev and librust-rand-pcg-dev put the sources of crates.
 const SOURCES: &str = "/usr/share/cargo/registry";
 
-/// The peers of the rand family, each after what it stands on.
+/// The peers of the rand family; the others stand on the first.
 const RAND: [&str; 3] = ["rand_core", "rand_xoshiro", "rand_pcg"];
 
 fn main() {
@@ -89,7 +89,11 @@ fn library(rustc: &str, folder: &Path, name: &str, source: &Path) -> Command {
     if let Some(target) = std::env::var_os("TARGET") {
         command.arg("--target").arg(target);
     }
-    command.arg("--out-dir").arg(folder).arg("-L").arg(folder).arg(source.join("src/lib.rs"));
+    if name != RAND[0] {
+        let below = RAND[0];
+        command.arg("--extern").arg(format!("{below}={}", folder.join(format!("lib{below}.rlib")).display()));
+    }
+    command.arg("--out-dir").arg(folder).arg(source.join("src/lib.rs"));
     command
 }
 
