@@ -1,24 +1,23 @@
 -- `words_of_xoshiro` meets its contract: each turn writes two words more, and one may be left after the last.
 use borrow.Author.Needs.{needs}
 use mathlib.Core.Path.{refl}
-use Prim.Native.Nat.{_-_}
+use Prim.Native.Nat.{_+_, _*_, _≤_, _<_}
 use native.Mathlib.Omega.{arith}
 use Rattle.xoshiro.specs.Generator.{result, stepped}
 use Rattle.filling.specs.FillLoop.{Filling, filling-start, filling-two, filling-last, filling-end}
 use Rattle.filling.proofs.fill.words_of_xoshiro.Statement.{statement}
 use Rattle.filling.proofs.fill.words_of_xoshiro.Tie as tie
 
+-- the words so far, and turns for all that is left but less than a turn
 abbrev Inv-loop : tie.InvT-loop
-Inv-loop dest₀ n next₀ i₀ dest next i = Filling result stepped 8 next₀ n i next dest
+Inv-loop dest₀ n next₀ i₀ turns₀ dest next i turns =
+    Filling result stepped 8 next₀ n i next dest × (i + turns * 16 ≤ n) × (n < i + turns * 16 + 16)
 
 abbrev μ-loop : tie.MeasureT-loop
-μ-loop dest₀ n next₀ i₀ dest next i = n - i
+μ-loop dest₀ n next₀ i₀ turns₀ dest next i turns = turns
 
 loop-holds : tie.Need-loop-holds Inv-loop μ-loop
-loop-holds c = filling-start _ _ _ _ _
-
-sub-loop : tie.Need-sub-loop Inv-loop μ-loop
-sub-loop c = c .loop .inv .within
+loop-holds c = (filling-start _ _ _ _ _, omega arith, omega arith)
 
 next-u64-requires : tie.Need-next-u64-requires Inv-loop μ-loop
 next-u64-requires c κs = search needs
@@ -32,6 +31,9 @@ put-two8-requires c κs = omega arith
 add-i : tie.Need-add-i Inv-loop μ-loop
 add-i c = omega arith
 
+sub-turns : tie.Need-sub-turns Inv-loop μ-loop
+sub-turns c = omega arith
+
 loop-less : tie.Need-loop-less Inv-loop μ-loop
 loop-less c = omega arith
 
@@ -41,11 +43,12 @@ loop-again c =
     let second = put .before .before .before in
     let first = second .before .before in
     let turn = first .before in
+    let (filled, room, last) = turn .before .loop .inv in
     rw (put .put-two8 .ensures, second .next-u642 .ensures, first .next-u64 .ensures)
-    (filling-two (turn .before .loop .inv) _ _ _ refl refl refl (omega arith) (turn .loop-test .taken))
+    (filling-two filled _ _ _ refl refl refl (omega arith) (omega arith), omega arith, omega arith)
 
 sub-if1 : tie.Need-sub-if1 Inv-loop μ-loop
-sub-if1 c = c .before .loop .inv .within
+sub-if1 c = c .before .loop .inv .0 .within
 
 next-u64-requires-3 : tie.Need-next-u64-requires-3 Inv-loop μ-loop
 next-u64-requires-3 c κs = search needs
@@ -61,14 +64,15 @@ returns c =
     let put = c .before .before .before in
     let drawn = put .before .before in
     let test = drawn .before in
+    let (filled, room, last) = test .before .before .loop .inv in
     rw (put .put8 .ensures, drawn .next-u643 .ensures)
-    (filling-last (test .before .before .loop .inv) _ _ refl refl (test .if1 .taken) (test .before .loop-test .left))
+    (filling-last filled _ _ refl refl (test .if1 .taken) (omega (arith, last)))
 
 same-length-2 : tie.Need-same-length-2 Inv-loop μ-loop
-same-length-2 c = c .before .before .loop .inv .size
+same-length-2 c = c .before .before .loop .inv .0 .size
 
 returns-2 : tie.Need-returns-2 Inv-loop μ-loop
-returns-2 c = filling-end (c .before .before .loop .inv) (c .if1 .left)
+returns-2 c = filling-end (c .before .before .loop .inv .0) (c .if1 .left)
 
 pub words-of-xoshiro-spec : {M : Type 1} → statement M
 words-of-xoshiro-spec =
@@ -77,11 +81,11 @@ words-of-xoshiro-spec =
     Inv-loop
     μ-loop
     loop-holds
-    sub-loop
     next-u64-requires
     next-u64-requires-2
     put-two8-requires
     add-i
+    sub-turns
     loop-less
     loop-again
     sub-if1
