@@ -1,9 +1,12 @@
 //! What the report says of the machine.
 
-/// The processor's name as Linux tells it.
+/// The processor's name as Linux tells it, or, where it has numbers alone, as on Arm, these.
 pub fn cpu_model() -> String {
     let info = std::fs::read_to_string("/proc/cpuinfo").unwrap_or_default();
-    let line = info.lines().find(|line| line.starts_with("model name"));
-    let name = line.and_then(|line| line.split_once(':')).map(|(_, name)| name.trim().to_string());
-    name.unwrap_or_else(|| "a processor of unknown name".to_string())
+    let said = |what: &str| info.lines().find_map(|line| Some(line.strip_prefix(what)?.trim_start().strip_prefix(':')?.trim()));
+    match (said("model name"), said("CPU implementer"), said("CPU part")) {
+        (Some(name), _, _) => name.to_string(),
+        (None, Some(implementer), Some(part)) => format!("a processor of implementer {implementer}, part {part}"),
+        _ => "a processor of unknown name".to_string(),
+    }
 }
