@@ -1,5 +1,7 @@
 // The next words of a generator, one for each entry of a list, over a lent table. Each kind has a loop of its own, so code that takes many
 // words asks for the kind once.
+#![tactic(auto)]
+
 ghost use Rattle.ahead.specs.Ahead.{XoshiroPut, TwisterPut, Pcg32Put, Pcg64Put};
 ghost use Rattle.ahead.specs.Promises.{WordsInPromise};
 ghost use Rattle.std.specs.Prelude.{length};

@@ -33,7 +33,7 @@ pub(crate) const BELOW: [[u32; 7]; BELOW_COUNT] = [
 ];
 
 // `int` from min to max, with a word where the budget is 1; none of these is refused.
-#[derive(Drop)]
+#[derive(Clone, Copy)]
 pub(crate) struct Int {
     pub(crate) min: i32,
     pub(crate) max: i32,
@@ -95,7 +95,7 @@ pub(crate) const INT: [Int; INT_COUNT] = [
 ];
 
 // [10, 20, 30] shuffled with the words 0, 1, 0xFFFFFFFF.
-#[derive(Drop)]
+#[derive(Clone, Copy)]
 pub(crate) struct Shuffled {
     pub(crate) budget: u32,
     pub(crate) list: [u32; 3],
@@ -134,7 +134,7 @@ pub(crate) const LONGER: Told = Told {
 };
 
 // `float` of a 32-bit word or `double` of a 64-bit word. An answer is told as an `f64`'s bit pattern.
-#[derive(Drop)]
+#[derive(Clone, Copy)]
 pub(crate) struct Unit {
     pub(crate) double: bool,
     pub(crate) word: u64,
@@ -173,7 +173,7 @@ pub(crate) const ONE: u64 = 0x3FF0_0000_0000_0000;
 pub(crate) const ABOVE_ONE: u64 = 0x3FF0_0000_0000_0001;
 
 // `bool` with the chance of a bit pattern, with one 64-bit word.
-#[derive(Drop)]
+#[derive(Clone, Copy)]
 pub(crate) struct Chance {
     pub(crate) p: u64,
     pub(crate) word: u64,

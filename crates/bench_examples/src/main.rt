@@ -1,5 +1,7 @@
 // Runs every bench example of document 01 ("Bench examples"), marked or not, over generators that are set by hand so that their next words
 // are the given ones; tells each answer and whether it is as the document says.
+#![tactic(auto)]
+
 mod bytes;
 mod draws;
 mod examples;

@@ -3,14 +3,14 @@ use bounded::EngineAnswer;
 use telling::{number, small, text};
 
 // Examples that are as in the document, of so many.
-#[derive(Drop)]
+#[derive(Clone, Copy)]
 pub(crate) struct Tally {
     pub(crate) right: u64,
     pub(crate) of: u64,
 }
 
 // What a draw tells: the refusal's number, the value and the words used.
-#[derive(Drop)]
+#[derive(Clone, Copy)]
 pub(crate) struct Told {
     pub(crate) refusal: u32,
     pub(crate) value: u32,

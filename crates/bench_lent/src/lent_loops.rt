@@ -11,7 +11,7 @@ use words::refusal;
 
 // The sums of values and of words used, modulo 2^64. Refused, they are 0.
 #[repr(C)]
-#[derive(Drop)]
+#[derive(Clone, Copy)]
 pub struct Sums {
     pub sum: u64,
     pub used: u64,
@@ -19,7 +19,7 @@ pub struct Sums {
 }
 
 // What draws come to: the sums, and the engine after them.
-#[derive(Drop)]
+#[derive(Clone, Copy)]
 struct EngineSums {
     next: Engine,
     sum: u64,

@@ -11,7 +11,7 @@ use words::refusal;
 
 // The XOR of words. Refused, it is 0.
 #[repr(C)]
-#[derive(Drop)]
+#[derive(Clone, Copy)]
 pub struct Xored {
     pub value: u64,
     pub refusal: u32,
@@ -61,7 +61,7 @@ pub extern "C" fn bench_words_by_value(
 }
 
 // What draws come to: the sums, and the generator after them.
-#[derive(Drop)]
+#[derive(Clone, Copy)]
 struct RandomSums {
     sum: u64,
     used: u64,

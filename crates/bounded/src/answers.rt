@@ -6,7 +6,7 @@ use random::{Engine, Random};
 use words::Outcome;
 
 // Refusal 0 where the call is answered. Where it is refused, value and used are 0, and next is the generator that came in.
-#[derive(Drop)]
+#[derive(Clone, Copy)]
 pub struct Answer {
     pub refusal: u32,
     pub value: u32,
@@ -15,7 +15,7 @@ pub struct Answer {
 }
 
 // The same over a lent table. The engine stands first: so it lies aligned for its copies, which are most of a draw's time.
-#[derive(Drop)]
+#[derive(Clone, Copy)]
 pub struct EngineAnswer {
     pub next: Engine,
     pub refusal: u32,

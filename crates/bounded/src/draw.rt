@@ -6,7 +6,7 @@ ghost use Rattle.bounded.specs.Trying.{TriedFrom};
 use random::Engine;
 
 // The engine after the words taken, whether one of them settled the draw, its value (0 where none did), and how many were taken.
-#[derive(Drop)]
+#[derive(Clone, Copy)]
 pub(crate) struct Tried {
     pub(crate) next: Engine,
     pub(crate) found: bool,

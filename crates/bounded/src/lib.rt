@@ -1,5 +1,7 @@
 // One number drawn within a budget of words: below a bound, between two ends, a letter. Every call has two forms: by value, and over a lent
 // table, which is not copied and stays as it came where the call refuses.
+#![tactic(auto)]
+
 mod answers;
 mod below;
 mod draw;

@@ -1,5 +1,7 @@
 // A float as its bit pattern and back, for programs that store floats as words. A NaN has no pattern of its own: its pattern reads as 0,
 // and the patterns of NaNs as the number 0.
+#![tactic(auto)]
+
 ghost use Rattle.float_bits.specs.Promises.{PatternOfPromise, NumberOfPromise};
 
 // The pattern of an infinity, the sign aside: above it stand the NaNs.

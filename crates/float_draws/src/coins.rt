@@ -7,7 +7,7 @@ use random::{Backend, Engine, Random, engine_of, with_table};
 use words::refusal;
 
 // Refusal 0 where it is answered; refused, the value is false, no word is used, and the generator is the one that came in.
-#[derive(Drop)]
+#[derive(Clone, Copy)]
 pub struct Flip {
     pub refusal: u32,
     pub value: bool,
@@ -16,7 +16,7 @@ pub struct Flip {
 }
 
 // The same over a lent table.
-#[derive(Drop)]
+#[derive(Clone, Copy)]
 pub struct EngineFlip {
     pub refusal: u32,
     pub value: bool,

@@ -6,14 +6,14 @@ use random::{Engine, Random, engine_of, with_table};
 use words::refusal;
 
 // The number drawn or the refusal's number, and the generator after it; refused, the one that came in.
-#[derive(Drop)]
+#[derive(Clone, Copy)]
 pub struct Spread {
     pub answer: Uniform,
     pub next: Random,
 }
 
 // The same over a lent table.
-#[derive(Drop)]
+#[derive(Clone, Copy)]
 pub struct EngineSpread {
     pub answer: Uniform,
     pub next: Engine,

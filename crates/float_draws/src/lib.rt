@@ -1,5 +1,7 @@
 // The float draws over the facade generator: `float`, `double`, `bool` and `uniform`, by value and over a lent table. What is refused
 // draws nothing.
+#![tactic(auto)]
+
 mod coins;
 mod intervals;
 mod units;

@@ -4,28 +4,28 @@ ghost use Rattle.float_draws.specs.Promises.{FloatInPromise, DoubleInPromise, Fl
 use random::{Engine, Random, engine_of, with_table};
 
 // A number, and the generator after it.
-#[derive(Drop)]
+#[derive(Clone, Copy)]
 pub struct Drawn32 {
     pub value: f32,
     pub next: Random,
 }
 
 // The same of a double.
-#[derive(Drop)]
+#[derive(Clone, Copy)]
 pub struct Drawn64 {
     pub value: f64,
     pub next: Random,
 }
 
 // The same over a lent table.
-#[derive(Drop)]
+#[derive(Clone, Copy)]
 pub struct EngineDrawn32 {
     pub value: f32,
     pub next: Engine,
 }
 
 // The same of a double, over a lent table.
-#[derive(Drop)]
+#[derive(Clone, Copy)]
 pub struct EngineDrawn64 {
     pub value: f64,
     pub next: Engine,

@@ -6,7 +6,7 @@ use words::refusal;
 
 // The refusal's number, 0 for none, and the value, false where it is refused.
 #[repr(C)]
-#[derive(Drop)]
+#[derive(Clone, Copy)]
 pub struct Coin {
     pub refusal: u32,
     pub value: bool,

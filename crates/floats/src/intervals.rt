@@ -9,14 +9,14 @@ use words::refusal;
 
 // A low end and a high end, kept together.
 #[repr(C)]
-#[derive(Drop)]
+#[derive(Clone, Copy)]
 pub struct Interval {
     pub low: f64,
     pub high: f64,
 }
 
 // The number drawn, or the refusal's number.
-#[derive(Drop)]
+#[derive(Clone, Copy)]
 pub enum Uniform {
     Number(f64),
     Refused(u32),

@@ -1,4 +1,6 @@
 // The float draws (document 01, "Draws"): what a word gives, as a number below 1, as a coin and as a number of an interval.
+#![tactic(auto)]
+
 mod chances;
 mod intervals;
 mod units;

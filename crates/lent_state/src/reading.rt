@@ -10,7 +10,7 @@ use wrapping::Wide;
 use xoshiro::Xoshiro256PlusPlus;
 
 // What a state holds: the refusal's number, 0 for none, and the engine. Refused, it is kind 0 with four zero words.
-#[derive(Drop)]
+#[derive(Clone, Copy)]
 pub struct Held {
     pub refusal: u32,
     pub engine: Engine,

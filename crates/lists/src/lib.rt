@@ -1,5 +1,7 @@
 // An entry of a list, and a part of one, drawn within a budget of words. The two draws have two forms: by value, and over a lent table,
 // which is not copied and stays as it came where the call refuses.
+#![tactic(auto)]
+
 mod checks;
 pub mod limit;
 mod outcomes;

@@ -4,7 +4,7 @@ ghost use Rattle.lists.specs.Promises.{EntryOfPromise, StartOfPromise};
 use words::Outcome;
 
 // An outcome with the place beside the value. Where it is refused, place, value and used are 0.
-#[derive(Drop)]
+#[derive(Clone, Copy)]
 pub struct Choice {
     pub refusal: u32,
     pub place: usize,
@@ -13,7 +13,7 @@ pub struct Choice {
 }
 
 // An outcome whose value is a start. Where it is refused, start and used are 0.
-#[derive(Drop)]
+#[derive(Clone, Copy)]
 pub struct SliceOutcome {
     pub refusal: u32,
     pub start: usize,

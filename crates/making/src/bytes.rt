@@ -11,7 +11,7 @@ use words::refusal;
 use xoshiro::Xoshiro256PlusPlus;
 
 // The refusal's number, 0 for none, and the generator; refused, it is kind 0 with four zero words.
-#[derive(Drop)]
+#[derive(Clone, Copy)]
 pub struct Made {
     pub refusal: u32,
     pub generator: Random,

@@ -1,4 +1,6 @@
 // Making a facade generator, and setting its seed anew.
+#![tactic(auto)]
+
 mod bytes;
 mod own_calls;
 mod seeding;

@@ -1,4 +1,6 @@
 // MT19937, the Mersenne Twister of Matsumoto and Nishimura: a generator by value, and the same over a lent table.
+#![tactic(auto)]
+
 mod constants;
 mod table;
 mod word;
@@ -16,7 +18,7 @@ pub use word::temper_word;
 
 // The table of 624 words and the position in it, `mt` and `mti` in mt19937ar.c.
 #[repr(C)]
-#[derive(Drop)]
+#[derive(Clone, Copy)]
 pub struct MersenneTwister {
     pub mt: [u32; 624],
     pub mti: u32,
@@ -24,7 +26,7 @@ pub struct MersenneTwister {
 
 // A word, and the generator after it.
 #[repr(C)]
-#[derive(Drop)]
+#[derive(Clone, Copy)]
 pub struct Drawn32 {
     pub word: u32,
     pub next: MersenneTwister,
@@ -32,7 +34,7 @@ pub struct Drawn32 {
 
 // Two words as one, and the generator after them.
 #[repr(C)]
-#[derive(Drop)]
+#[derive(Clone, Copy)]
 pub struct Drawn64 {
     pub word: u64,
     pub next: MersenneTwister,

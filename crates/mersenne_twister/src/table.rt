@@ -9,7 +9,7 @@ use super::word::{follow_word, seed_step, temper_word};
 
 // What a draw answers beside the table: the word, and the position after it.
 #[repr(C)]
-#[derive(Drop)]
+#[derive(Clone, Copy)]
 pub struct Step {
     pub word: u32,
     pub mti: u32,
@@ -17,7 +17,7 @@ pub struct Step {
 
 // The same of a draw of two words as one.
 #[repr(C)]
-#[derive(Drop)]
+#[derive(Clone, Copy)]
 pub struct Step64 {
     pub word: u64,
     pub mti: u32,

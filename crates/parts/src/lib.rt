@@ -1,4 +1,6 @@
 // What a facade generator is made of: its kind and parts read out, equality, the twister's position and twist, and the split of kind 0.
+#![tactic(auto)]
+
 mod equality;
 mod position;
 mod read_out;

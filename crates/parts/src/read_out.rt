@@ -5,7 +5,7 @@ use random::Backend;
 
 // The small words of a kind: xoshiro's state; Pcg32's state and increment; Pcg64's, high word first. The rest are zeros.
 #[repr(C)]
-#[derive(Drop)]
+#[derive(Clone, Copy)]
 pub struct Small {
     pub w0: u64,
     pub w1: u64,

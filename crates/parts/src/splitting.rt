@@ -8,7 +8,7 @@ use words::refusal;
 use xoshiro::Xoshiro256PlusPlus;
 
 // What `split_in` answers; refused, the parent is as it came.
-#[derive(Drop)]
+#[derive(Clone, Copy)]
 pub struct EngineSplit {
     pub refusal: u32,
     pub parent: Engine,
@@ -50,7 +50,7 @@ fn no_split(e: Engine) -> EngineSplit
 }
 
 // What `split` answers; refused, the parent is as it came.
-#[derive(Drop)]
+#[derive(Clone, Copy)]
 pub struct SplitAnswer {
     pub refusal: u32,
     pub parent: Random,

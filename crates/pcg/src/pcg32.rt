@@ -12,7 +12,7 @@ const DEFAULT_STREAM: u64 = 1_442_695_040_888_963_407;
 
 // The state, and the increment in use.
 #[repr(C)]
-#[derive(Drop)]
+#[derive(Clone, Copy)]
 pub struct Pcg32 {
     pub state: u64,
     pub inc: u64,
@@ -20,7 +20,7 @@ pub struct Pcg32 {
 
 // A word of 32 bits, and the generator after it.
 #[repr(C)]
-#[derive(Drop)]
+#[derive(Clone, Copy)]
 pub struct Drawn32 {
     pub word: u32,
     pub next: Pcg32,
@@ -28,7 +28,7 @@ pub struct Drawn32 {
 
 // Two words as one of 64 bits, and the generator after them.
 #[repr(C)]
-#[derive(Drop)]
+#[derive(Clone, Copy)]
 pub struct Drawn64 {
     pub word: u64,
     pub next: Pcg32,

@@ -20,7 +20,7 @@ const DEFAULT_STREAM: Wide = Wide {
 
 // The state, and the increment in use.
 #[repr(C)]
-#[derive(Drop)]
+#[derive(Clone, Copy)]
 pub struct Pcg64 {
     pub state: Wide,
     pub inc: Wide,
@@ -28,7 +28,7 @@ pub struct Pcg64 {
 
 // A word of 64 bits, and the generator after it.
 #[repr(C)]
-#[derive(Drop)]
+#[derive(Clone, Copy)]
 pub struct Drawn64 {
     pub word: u64,
     pub next: Pcg64,
@@ -36,7 +36,7 @@ pub struct Drawn64 {
 
 // A word of 32 bits, and the generator after it.
 #[repr(C)]
-#[derive(Drop)]
+#[derive(Clone, Copy)]
 pub struct Drawn32 {
     pub word: u32,
     pub next: Pcg64,

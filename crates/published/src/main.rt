@@ -1,5 +1,7 @@
 // Compares the generators, word by word, with what their authors published and with other implementations, and tells what was
 // compared and how many words agree.
+#![tactic(auto)]
+
 mod init_by_array;
 mod report;
 mod source;

@@ -2,14 +2,14 @@
 use pcg::{Pcg32, Pcg64};
 use xoshiro::Xoshiro256PlusPlus;
 
-#[derive(Drop)]
+#[derive(Clone, Copy)]
 pub(crate) enum Source {
     OfPcg32(Pcg32),
     OfPcg64(Pcg64),
     OfXoshiro(Xoshiro256PlusPlus),
 }
 
-#[derive(Drop)]
+#[derive(Clone, Copy)]
 pub(crate) struct Given {
     pub(crate) word: u64,
     pub(crate) next: Source,

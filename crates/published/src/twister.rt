@@ -2,7 +2,7 @@
 use crate::init_by_array::init_by_array;
 use crate::{report, vectors};
 
-#[derive(Drop)]
+#[derive(Clone, Copy)]
 struct Place {
     right: u64,
     mti: u32,

@@ -8,21 +8,21 @@ use crate::lent;
 use mersenne_twister::MersenneTwister;
 
 // A word of 32 bits, and the generator after it.
-#[derive(Drop)]
+#[derive(Clone, Copy)]
 pub struct Word32 {
     pub word: u32,
     pub next: Random,
 }
 
 // A word of 64 bits, and the generator after it.
-#[derive(Drop)]
+#[derive(Clone, Copy)]
 pub struct Word64 {
     pub word: u64,
     pub next: Random,
 }
 
 // A word of 64 bits read as signed, and the generator after it.
-#[derive(Drop)]
+#[derive(Clone, Copy)]
 pub struct Signed64 {
     pub word: i64,
     pub next: Random,

@@ -6,7 +6,7 @@ ghost use Rattle.random.specs.Promises.{EngineWithPromise};
 use crate::backend::Backend;
 
 // All of a generator but the table.
-#[derive(Drop)]
+#[derive(Clone, Copy)]
 pub struct Engine {
     pub backend: Backend,
     pub mti: u32,
@@ -20,14 +20,14 @@ pub fn engine_with(backend: Backend, mti: u32) -> Engine
 }
 
 // A word of 32 bits, and the engine after it.
-#[derive(Drop)]
+#[derive(Clone, Copy)]
 pub struct EngineWord {
     pub word: u32,
     pub next: Engine,
 }
 
 // A word of up to 64 bits, and the engine after it.
-#[derive(Drop)]
+#[derive(Clone, Copy)]
 pub struct EngineWord64 {
     pub word: u64,
     pub next: Engine,

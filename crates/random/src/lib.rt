@@ -1,5 +1,7 @@
 // The facade generator: one of four kinds, by value, as the Rust's random.rs has it without its draws. A call takes the generator and
 // hands the next one back; inside, the twister's table is lent and never copied.
+#![tactic(auto)]
+
 mod backend;
 mod by_value;
 mod engine;

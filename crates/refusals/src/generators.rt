@@ -19,7 +19,7 @@ const LARGEST: u64 = 0xFFFF_FFFF_FFFF_FFFF;
 const SENTINEL: u32 = 0xDEAD_BEEF;
 
 // Four small words, and the position beside the kinds that have no use for it.
-#[derive(Drop)]
+#[derive(Clone, Copy)]
 struct State {
     w0: u64,
     w1: u64,

@@ -1,5 +1,7 @@
 // Runs the library's refusals, on both sides of each edge, and compares whole answers with what document 01 orders. What is tried
 // stands in the table on standard input (the file `stdin` of this crate), a line for each row.
+#![tactic(auto)]
+
 mod calls;
 mod generators;
 mod listed;

@@ -1,7 +1,7 @@
 // How the cases are counted and printed: a line for each heading of the table, and a line for each case that is not as ordered.
 use libc::STDOUT_FILENO;
 
-#[derive(Drop)]
+#[derive(Clone, Copy)]
 pub(crate) struct Tally {
     pub(crate) right: u64,
     pub(crate) of: u64,

@@ -1,6 +1,6 @@
 // The table: rows of numbers below headings. One of a call's numbers, in the types that calls take: whole, its low 32 bits, those read
 // as signed, and the float of which it is the bit pattern.
-#[derive(Drop)]
+#[derive(Clone, Copy)]
 pub(crate) struct Argument {
     pub(crate) whole: u64,
     pub(crate) word: u32,
@@ -9,7 +9,7 @@ pub(crate) struct Argument {
 }
 
 // A call's arguments and what document 01 orders, as the head of the table says.
-#[derive(Drop)]
+#[derive(Clone, Copy)]
 pub(crate) struct Row {
     pub(crate) line: u64,
     pub(crate) first: Argument,
@@ -22,7 +22,7 @@ pub(crate) struct Row {
 }
 
 // A number that is read letter by letter, and whether it has begun and ended.
-#[derive(Drop)]
+#[derive(Clone, Copy)]
 struct Reading {
     value: u64,
     base: u64,
@@ -32,7 +32,7 @@ struct Reading {
 }
 
 // A number and the place just after it.
-#[derive(Drop)]
+#[derive(Clone, Copy)]
 struct Number {
     value: u64,
     end: usize,

@@ -4,7 +4,7 @@ use bounded::Answer;
 use floats::Uniform;
 use random::Random;
 
-#[derive(Drop)]
+#[derive(Clone, Copy)]
 pub(crate) struct Told {
     pub(crate) refusal: u32,
     pub(crate) place: u64,

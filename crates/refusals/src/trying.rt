@@ -133,7 +133,7 @@ fn try_row(call: usize, row: Row) -> Tally {
 }
 
 // What was tried so far: in all, and below the heading last read; where that stands; the lines read, and whether a line begins.
-#[derive(Drop)]
+#[derive(Clone, Copy)]
 struct Run {
     all: Tally,
     here: Tally,

@@ -13,7 +13,7 @@ use random::{Backend, Engine};
 use xoshiro::Xoshiro256PlusPlus;
 
 // Whether all draws are settled, the words that they use (0 where they are not all settled), and how many of them are settled.
-#[derive(Drop)]
+#[derive(Clone, Copy)]
 pub struct Rehearsed {
     pub complete: bool,
     pub used: u32,

@@ -10,7 +10,7 @@ use crate::settling::settle;
 use random::Engine;
 
 // So many draws under a budget of words: the first below `first`, each further one below the same bound, or below one less where they fall.
-#[derive(Drop)]
+#[derive(Clone, Copy)]
 pub struct Draws {
     pub first: u32,
     pub falls: bool,
@@ -19,7 +19,7 @@ pub struct Draws {
 }
 
 // Where they stand: the engine, the words taken so far, and the draws that these settled.
-#[derive(Drop)]
+#[derive(Clone, Copy)]
 pub struct Turn {
     pub next: Engine,
     pub used: u32,
@@ -67,7 +67,7 @@ fn words_taken(d: Draws, t: Turn, block: usize) -> usize
 }
 
 // The engine after some words, and how many draws they settled.
-#[derive(Drop)]
+#[derive(Clone, Copy)]
 struct Settled {
     next: Engine,
     count: usize,

@@ -5,7 +5,7 @@ use crate::{digest, perform, sample, start};
 use telling::{number, small, text, word};
 
 // Rows that agree, of so many; and damages that were found, each alone and in its place, of so many.
-#[derive(Drop)]
+#[derive(Clone, Copy)]
 pub(crate) struct Tally {
     pub(crate) agree: u64,
     pub(crate) rows: u64,
@@ -17,7 +17,7 @@ pub(crate) struct Tally {
 const FEW: u32 = 3;
 
 // A row and the first word of its answer that differs, 8 where none does; what is recorded, and what is answered here.
-#[derive(Drop)]
+#[derive(Clone, Copy)]
 pub(crate) struct Difference {
     pub(crate) row: u32,
     pub(crate) word: u32,
@@ -35,7 +35,7 @@ pub(crate) fn difference_at(row: u32, word: u32) -> Difference {
 }
 
 // How many rows agree, and the last one that does not.
-#[derive(Drop)]
+#[derive(Clone, Copy)]
 pub(crate) struct Compared {
     pub(crate) agree: u32,
     pub(crate) last: Difference,

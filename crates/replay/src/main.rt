@@ -1,5 +1,7 @@
 // Replays a recorded sample of the original's answers, with no Rust at hand: every row of every file, and then every file again with
 // one bit of an answer changed, which must be told. rust/record makes the files; `sample` says what stands in them.
+#![tactic(auto)]
+
 mod calls;
 mod compare;
 mod digest;

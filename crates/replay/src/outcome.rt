@@ -2,7 +2,7 @@
 use bounded::Answer;
 use random::{Random, Word32};
 
-#[derive(Drop)]
+#[derive(Clone, Copy)]
 pub(crate) struct Outcome {
     pub(crate) refusal: u32,
     pub(crate) value: u64,

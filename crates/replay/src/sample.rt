@@ -12,7 +12,7 @@ pub(crate) const ARGUMENTS: u32 = 12;
 pub(crate) const ANSWER: u32 = 16;
 
 // The four arguments of a call.
-#[derive(Drop)]
+#[derive(Clone, Copy)]
 pub(crate) struct Arguments {
     pub(crate) first: u32,
     pub(crate) second: u32,

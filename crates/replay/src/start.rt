@@ -8,7 +8,7 @@ use wrapping::Wide;
 use xoshiro::Xoshiro256PlusPlus;
 
 // Two numbers of 128 bits.
-#[derive(Drop)]
+#[derive(Clone, Copy)]
 struct Numbers {
     first: Wide,
     second: Wide,

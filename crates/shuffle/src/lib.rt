@@ -1,5 +1,7 @@
 // A list shuffled in place within a budget of words, over a lent table and by value; and the two halves of it, what it comes to and its
 // swaps, for a call that does something between them.
+#![tactic(auto)]
+
 mod arranging;
 mod performing;
 mod shuffling;

@@ -1,5 +1,7 @@
 // Signed numbers: words read as signed, a word added to a signed number, and how far one signed number is above another.
 // The one place that works with them: what stands above takes their laws from specs/.
+#![tactic(auto)]
+
 ghost use Rattle.signed.specs.Promises.{SignedU32Promise, SignedU64Promise, WrappingAddSignedPromise, SpanOfPromise};
 
 // A word of 32 bits read as signed, where the Rust has `as i32`.

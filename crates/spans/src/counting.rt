@@ -4,7 +4,7 @@ ghost use Rattle.spans.specs.Promises.{CountedPromise};
 use words::Outcome;
 
 // An outcome with a signed value. Where it is refused, value and used are 0.
-#[derive(Drop)]
+#[derive(Clone, Copy)]
 pub struct IntOutcome {
     pub refusal: u32,
     pub value: i32,

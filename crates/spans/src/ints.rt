@@ -8,7 +8,7 @@ use crate::span::spanned_in;
 use random::{Engine, Random};
 
 // Refusal 0 where the call is answered. Where it is refused, value and used are 0, and next is the generator that came in.
-#[derive(Drop)]
+#[derive(Clone, Copy)]
 pub struct IntAnswer {
     pub refusal: u32,
     pub value: i32,
@@ -17,7 +17,7 @@ pub struct IntAnswer {
 }
 
 // The same over a lent table.
-#[derive(Drop)]
+#[derive(Clone, Copy)]
 pub struct IntEngineAnswer {
     pub next: Engine,
     pub refusal: u32,

@@ -1,5 +1,7 @@
 // Numbers between two ends, both included, within a budget of words: unsigned and signed. Every call has two forms: by value, and over a
 // lent table, which is not copied and stays as it came where the call refuses.
+#![tactic(auto)]
+
 mod counting;
 mod ints;
 mod span;

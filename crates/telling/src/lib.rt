@@ -1,5 +1,7 @@
 // What programs write to standard output: texts, numbers and words. That something is written can't be promised; every call is safe and
 // ends.
+#![tactic(auto)]
+
 use libc::STDOUT_FILENO;
 
 // A text as it is.

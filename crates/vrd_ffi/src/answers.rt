@@ -9,7 +9,7 @@ use lent_state::settle;
 
 // A word of 32 or 64 bits, or a position.
 #[repr(C)]
-#[derive(Drop)]
+#[derive(Clone, Copy)]
 pub struct Word {
     pub value: u64,
     pub refusal: u32,
@@ -17,7 +17,7 @@ pub struct Word {
 
 // A word of 64 bits, read as signed.
 #[repr(C)]
-#[derive(Drop)]
+#[derive(Clone, Copy)]
 pub struct SignedWord {
     pub value: i64,
     pub refusal: u32,
@@ -25,7 +25,7 @@ pub struct SignedWord {
 
 // A number drawn, and the words used.
 #[repr(C)]
-#[derive(Drop)]
+#[derive(Clone, Copy)]
 pub struct Number {
     pub value: u64,
     pub used: u32,
@@ -34,7 +34,7 @@ pub struct Number {
 
 // A signed number drawn, and the words used.
 #[repr(C)]
-#[derive(Drop)]
+#[derive(Clone, Copy)]
 pub struct Integer {
     pub used: u32,
     pub refusal: u32,
@@ -43,7 +43,7 @@ pub struct Integer {
 
 // An entry of a list, its place, and the words used.
 #[repr(C)]
-#[derive(Drop)]
+#[derive(Clone, Copy)]
 pub struct Choice {
     pub place: usize,
     pub value: u64,
@@ -53,7 +53,7 @@ pub struct Choice {
 
 // A float of 32 bits.
 #[repr(C)]
-#[derive(Drop)]
+#[derive(Clone, Copy)]
 pub struct Number32 {
     pub value: f32,
     pub refusal: u32,
@@ -61,7 +61,7 @@ pub struct Number32 {
 
 // A float of 64 bits.
 #[repr(C)]
-#[derive(Drop)]
+#[derive(Clone, Copy)]
 pub struct Number64 {
     pub value: f64,
     pub refusal: u32,
@@ -69,7 +69,7 @@ pub struct Number64 {
 
 // A coin, and the words used.
 #[repr(C)]
-#[derive(Drop)]
+#[derive(Clone, Copy)]
 pub struct Coin {
     pub used: u32,
     pub refusal: u32,
@@ -78,7 +78,7 @@ pub struct Coin {
 
 // Whether two generators are equal.
 #[repr(C)]
-#[derive(Drop)]
+#[derive(Clone, Copy)]
 pub struct Equality {
     pub refusal: u32,
     pub equal: bool,

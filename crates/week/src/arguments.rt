@@ -6,13 +6,13 @@ use crate::decimal::read_number;
 use crate::job::{Job, MOST_SLOTS};
 use crate::{job, report};
 
-#[derive(Drop)]
+#[derive(Clone, Copy)]
 pub(crate) struct Asked {
     pub(crate) bad: bool,
     pub(crate) job: Job,
 }
 
-#[derive(Drop)]
+#[derive(Clone, Copy)]
 struct Taken {
     bad: bool,
     number: u64,

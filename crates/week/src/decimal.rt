@@ -3,7 +3,7 @@ ghost use Rattle.std.specs.Prelude.{◌≡◌};
 ghost use Rattle.week.specs.Decimal.{no_number, read_number};
 
 // Whether a text is a number of 64 bits, and which: 0 where it is none.
-#[derive(Drop)]
+#[derive(Clone, Copy)]
 pub(crate) struct Digits {
     pub(crate) valid: bool,
     pub(crate) number: u64,

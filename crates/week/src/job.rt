@@ -5,7 +5,7 @@ ghost use Rattle.week.specs.Slots.{WithinLimit};
 pub(crate) const MOST_SLOTS: usize = 65536;
 
 // A kind and its seed, the inlets and the blanks of each day, the days, and the words that each day's draw may use.
-#[derive(Drop)]
+#[derive(Clone, Copy)]
 pub(crate) struct Job {
     pub(crate) kind: u64,
     pub(crate) seed: u64,

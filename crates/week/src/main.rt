@@ -1,5 +1,7 @@
 // Prints the plan of a week: which inlet opens in which slot and where the blanks go, day after day from one generator. It takes six
 // arguments, KIND SEED INLETS BLANKS DAYS BUDGET; without any it prints an example, and with -h or --help the usage.
+#![tactic(auto)]
+
 ghost use Rattle.std.specs.Prelude.{◌≡◌, length};
 ghost use Rattle.week.specs.Slots.{WithinLimit, most_slots};
 

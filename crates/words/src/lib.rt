@@ -1,4 +1,6 @@
 // Drawing for code over any source of words: the arithmetic of a draw below r, and what a draw tells. Every function is total.
+#![tactic(auto)]
+
 ghost use Rattle.words.specs.Promises.{ProductPromise, ThresholdPromise, IsGoodPromise, QuotientPromise};
 
 mod outcome;

@@ -4,7 +4,7 @@ ghost use Rattle.words.specs.Promises.{RefusedPromise, GivesPromise, RaisedPromi
 use crate::refusal;
 
 // The refusal's number (0 where the call is answered), the value, and the words used.
-#[derive(Drop)]
+#[derive(Clone, Copy)]
 pub struct Outcome {
     pub refusal: u32,
     pub value: u32,

@@ -1,4 +1,6 @@
 // Arithmetic that wraps, where the Rust has `wrapping_mul`, `rotate_left`, `rotate_right`, `from_le_bytes` and `u128`.
+#![tactic(auto)]
+
 mod bytes;
 mod product;
 mod rotate_u32;

@@ -13,14 +13,14 @@ pub fn mul_u32(a: u32, b: u32) -> u32
 
 // The factors of a product, held together. The compiler makes one multiplication of `lower` and one of `upper`, as long as it
 // does not know a factor when it comes to them, and it looks for a constant among plain arguments first.
-#[derive(Drop)]
+#[derive(Clone, Copy)]
 struct Factors {
     a: u64,
     b: u64,
 }
 
 // The columns of a product by halves of 32 bits: the first, the second with the first's carry, and the third's lower part.
-#[derive(Drop)]
+#[derive(Clone, Copy)]
 struct Columns {
     first: u64,
     second: u64,

@@ -14,7 +14,7 @@ const JUMP: [u64; 4] = [
 ];
 
 // A jump on its way: the XOR of the states picked so far, and the state that has been reached.
-#[derive(Drop)]
+#[derive(Clone, Copy)]
 struct Jumping {
     sum: Xoshiro256PlusPlus,
     at: Xoshiro256PlusPlus,

@@ -1,5 +1,7 @@
 // Blackman and Vigna's xoshiro256++ 1.0, as the Rust's xoshiro.rs has it: four words of state, and draws. How it is seeded and how it jumps
 // stand in files of their own.
+#![tactic(auto)]
+
 ghost use Rattle.std.specs.Prelude.{◌≡◌};
 ghost use Rattle.xoshiro.specs.Generator.{result, stepped};
 ghost use Rattle.xoshiro.specs.Promises.{XoshiroFromPartsPromise, XoshiroNextU64Promise, XoshiroNextU32Promise};
@@ -9,7 +11,7 @@ mod seed;
 
 // The four words of state, s[0] to s[3] in the authors' file.
 #[repr(C)]
-#[derive(Drop)]
+#[derive(Clone, Copy)]
 pub struct Xoshiro256PlusPlus {
     pub s0: u64,
     pub s1: u64,
@@ -19,7 +21,7 @@ pub struct Xoshiro256PlusPlus {
 
 // A word of 64 bits, and the generator after it.
 #[repr(C)]
-#[derive(Drop)]
+#[derive(Clone, Copy)]
 pub struct Drawn64 {
     pub word: u64,
     pub next: Xoshiro256PlusPlus,
@@ -27,7 +29,7 @@ pub struct Drawn64 {
 
 // A word of 32 bits, and the generator after it.
 #[repr(C)]
-#[derive(Drop)]
+#[derive(Clone, Copy)]
 pub struct Drawn32 {
     pub word: u32,
     pub next: Xoshiro256PlusPlus,
