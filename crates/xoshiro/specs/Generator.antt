@@ -11,8 +11,8 @@ abbrev pub parts : (s0 s1 s2 s3 : ℕ) → Xoshiro256PlusPlus
 parts s0 s1 s2 s3 = record { s0 = s0; s1 = s1; s2 = s2; s3 = s3 }
 
 -- result = rotl(s[0] + s[3], 23) + s[0]
-unfoldable pub result : Xoshiro256PlusPlus → ℕ
-result x = (rotate_left 64 ((x.s0 + x.s3) % 2 ^ 64) 23 + x.s0) % 2 ^ 64
+unfoldable pub output : Xoshiro256PlusPlus → ℕ
+output x = (rotate_left 64 ((x.s0 + x.s3) % 2 ^ 64) 23 + x.s0) % 2 ^ 64
 
 -- t = s[1] << 17; s[2] ^= s[0]; s[3] ^= s[1]; s[1] ^= s[2]; s[0] ^= s[3]; s[2] ^= t; s[3] = rotl(s[3], 45)
 unfoldable pub stepped : Xoshiro256PlusPlus → Xoshiro256PlusPlus
@@ -26,8 +26,8 @@ stepped x =
 
 -- a word is the old state's, and the state steps
 abbrev pub drawn : Xoshiro256PlusPlus → Drawn64
-drawn x = record { word = result x; next = stepped x }
+drawn x = record { word = output x; next = stepped x }
 
 -- the 32-bit word is the high half (document 01; the authors' file has none)
 abbrev pub drawn_high : Xoshiro256PlusPlus → Drawn32
-drawn_high x = record { word = result x / 2 ^ 32; next = stepped x }
+drawn_high x = record { word = output x / 2 ^ 32; next = stepped x }

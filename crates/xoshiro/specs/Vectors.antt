@@ -3,7 +3,7 @@
 use Rattle.std.specs.Prelude.{◌≡◌, ℕ, List, [], ◌∷◌, refl}
 use Rattle.wrapping.specs.Bytes.{little}
 use Rattle.xoshiro.specs.declared.Xoshiro256PlusPlus.{Xoshiro256PlusPlus}
-use Rattle.xoshiro.specs.Generator.{parts, result, stepped}
+use Rattle.xoshiro.specs.Generator.{parts, output, stepped}
 use Rattle.xoshiro.specs.Jump.{turned, jumping, jumped}
 use Rattle.xoshiro.specs.Seed.{four_words, seeded, seeded_bytes}
 use Rattle.xoshiro.specs.SplitMix64.{next_state, mixed}
@@ -16,8 +16,8 @@ split_first : mixed (next_state 1234567) ≡ 6457827717110365317
 unfolding mixed
 split_first = refl
 
-first : result small ≡ 41943041
-unfolding result
+first : output small ≡ 41943041
+unfolding output
 first = refl
 
 jump : jumped small ≡ parts 0x8c7a153956b5f3d1 0x701f1a713401d85e 0x6527f66a65469085 0x8386b786c4408050

@@ -3,7 +3,7 @@
 #![tactic(auto)]
 
 ghost use Rattle.std.specs.Prelude.{◌≡◌};
-ghost use Rattle.xoshiro.specs.Generator.{result, stepped};
+ghost use Rattle.xoshiro.specs.Generator.{output, stepped};
 ghost use Rattle.xoshiro.specs.Promises.{XoshiroFromPartsPromise, XoshiroNextU64Promise, XoshiroNextU32Promise};
 
 mod jump;
@@ -38,14 +38,14 @@ pub struct Drawn32 {
 impl Xoshiro256PlusPlus {
     // The generator with these four words of state, all zeros included.
     pub fn from_parts(s0: u64, s1: u64, s2: u64, s3: u64) -> Xoshiro256PlusPlus
-        ensures* { λ r. ⌜ XoshiroFromPartsPromise s0 s1 s2 s3 r ⌝ }
+        ensures { XoshiroFromPartsPromise s0 s1 s2 s3 result }
     {
         Xoshiro256PlusPlus { s0, s1, s2, s3 }
     }
 
     // The word that this state gives.
     fn word(self) -> u64
-        ensures* { λ r. ⌜ r ≡ result self ⌝ }
+        ensures { result ≡ output self }
     {
         let sum = std::num::wrapping_add_u64(self.s0, self.s3);
         std::num::wrapping_add_u64(wrapping::rotate_left_u64(sum, 23), self.s0)
@@ -53,7 +53,7 @@ impl Xoshiro256PlusPlus {
 
     // The state after this one.
     fn step(self) -> Xoshiro256PlusPlus
-        ensures* { λ r. ⌜ r ≡ stepped self ⌝ }
+        ensures { result ≡ stepped self }
     {
         let t = self.s1 << 17;
         let s2 = self.s2 ^ self.s0;
@@ -70,7 +70,7 @@ impl Xoshiro256PlusPlus {
 
     // The next word. It is made of the old state.
     pub fn next_u64(self) -> Drawn64
-        ensures* { λ r. ⌜ XoshiroNextU64Promise self r ⌝ }
+        ensures { XoshiroNextU64Promise self result }
     {
         let word = self.word();
         let next = self.step();
@@ -79,7 +79,7 @@ impl Xoshiro256PlusPlus {
 
     // The high half of the next 64-bit word.
     pub fn next_u32(self) -> Drawn32
-        ensures* { λ r. ⌜ XoshiroNextU32Promise self r ⌝ }
+        ensures { XoshiroNextU32Promise self result }
     {
         let d = self.next_u64();
         let next = d.next;
