@@ -16,7 +16,7 @@ use Rattle.xoshiro.specs.declared.Xoshiro256PlusPlus.{Xoshiro256PlusPlus}
 
 -- words of kind 0 in a row,
 abbrev pub xoshiro_words : ℕ → Xoshiro256PlusPlus → drawn-xoshiro.Drawn64
-xoshiro_words n g = record { word = xor_of xoshiro.stepped xoshiro.result n g; next = after xoshiro.stepped n g }
+xoshiro_words n g = record { word = xor_of xoshiro.stepped xoshiro.output n g; next = after xoshiro.stepped n g }
 
 -- of kind 2,
 abbrev pub pcg32_words : ℕ → Pcg32 → drawn-pcg32.Drawn32

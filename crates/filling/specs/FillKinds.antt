@@ -20,7 +20,7 @@ use Rattle.filling.specs.FillLoop.{WholeWords, filling_part}
 
 -- kind 0
 abbrev pub XoshiroWords : ℕ → xoshiro-type.Xoshiro256PlusPlus → xoshiro-type.Xoshiro256PlusPlus → List ℕ → Type 0
-XoshiroWords n x next bytes = WholeWords xoshiro.result xoshiro.stepped 8 x n next bytes
+XoshiroWords n x next bytes = WholeWords xoshiro.output xoshiro.stepped 8 x n next bytes
 
 -- kind 1: the twister's word
 abbrev pub twister_word : twister-type.MersenneTwister → ℕ

@@ -37,10 +37,10 @@ own_words_lem next word held same gives s n = ap word_of (own_steps next held sa
 -- ---- kind 0: the high halves of xoshiro256++'s words (Blackman and Vigna; document 01)
 
 pub xoshiro_words_lem : (x : xoshiro-type.Xoshiro256PlusPlus) (t : twister-type.MersenneTwister) (n : ℕ)
-    → words_of (gen (Xoshiro256PlusPlus x) t) n ≡ xoshiro.result (times xoshiro.stepped n x) / 2 ^ 32
+    → words_of (gen (Xoshiro256PlusPlus x) t) n ≡ xoshiro.output (times xoshiro.stepped n x) / 2 ^ 32
 unfolding step word_of
 xoshiro_words_lem x t n =
-    own_words_lem xoshiro.stepped (λ s. xoshiro.result s / 2 ^ 32) (λ s. gen (Xoshiro256PlusPlus s) t) (λ s. refl) (λ s. refl) x n
+    own_words_lem xoshiro.stepped (λ s. xoshiro.output s / 2 ^ 32) (λ s. gen (Xoshiro256PlusPlus s) t) (λ s. refl) (λ s. refl) x n
 
 -- ---- kind 1: the sequence of Matsumoto and Nishimura, tempered
 

@@ -22,8 +22,8 @@ use Rattle.random.specs.Generator.{width_of, own_by, own_word, word_by, word_of,
 
 -- ---- the words of each kind
 
-xoshiro_sized : (x : xoshiro-type.Xoshiro256PlusPlus) → xoshiro.result x < 2 ^ 64
-unfolding xoshiro.result
+xoshiro_sized : (x : xoshiro-type.Xoshiro256PlusPlus) → xoshiro.output x < 2 ^ 64
+unfolding xoshiro.output
 xoshiro_sized x = mod-lt _ (lit< tt)
 
 pcg32_sized : (p : pcg32-type.Pcg32) → pcg32.word_of p < 2 ^ 32

@@ -3,7 +3,7 @@ use borrow.Author.Rules.{rules}
 use mathlib.Core.Path.{refl}
 use Prim.Native.Nat.{◌+◌, ◌*◌, ◌≤◌, ◌<◌}
 use native.Mathlib.Omega.{arith}
-use Rattle.xoshiro.specs.Generator.{result, stepped}
+use Rattle.xoshiro.specs.Generator.{output, stepped}
 use Rattle.filling.specs.FillLoop.{Filling, filling_start, filling_two, filling_last, filling_end}
 use Rattle.filling.proofs.fill.words_of_xoshiro.Statement.{statement}
 use Rattle.filling.proofs.fill.words_of_xoshiro.Tie as tie
@@ -11,7 +11,7 @@ use Rattle.filling.proofs.fill.words_of_xoshiro.Tie as tie
 -- the words so far, and turns for all that is left but less than a turn
 abbrev invariant-loop : tie.invariant-loop
 invariant-loop dest₀ n next₀ i₀ turns₀ dest next i turns =
-    Filling result stepped 8 next₀ n i next dest × (i + turns * 16 ≤ n) × (n < i + turns * 16 + 16)
+    Filling output stepped 8 next₀ n i next dest × (i + turns * 16 ≤ n) × (n < i + turns * 16 + 16)
 
 abbrev decreases-loop : tie.decreases-loop
 decreases-loop dest₀ n next₀ i₀ turns₀ dest next i turns = turns

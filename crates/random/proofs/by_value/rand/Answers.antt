@@ -15,8 +15,7 @@ use Rattle.random.specs.declared.backend.Random.{Random}
 use Rattle.random.specs.declared.by_value.Word32.{Word32}
 use Rattle.random.specs.contracts.backend.Backend as backend
 use Rattle.random.specs.contracts.backend.Random as generator
-use Rattle.random.proofs.by_value.rand.Statement.{statement}
-use Rattle.random.proofs.by_value.rand.Tie as tie
+use Rattle.random.proofs.by_value.rand.Goals as goal
 
 -- what owning a backend tells of its words, kind by kind
 small : (b : Backend) (vs : List Val) → shadow ((backend.the_row).own_val b vs) → SizedSmall b
@@ -33,26 +32,8 @@ held g vs h = record { small = small g.backend _ h.1.1.0; beside = record { tabl
     entry : (j : ℕ) → get_or g.twister.mt j 0 < 2 ^ 32
     entry j = let e : Fits w32 (get_or g.twister.mt j 0) = search rules in e.fits
 
--- so the promise carries the sizes along
-both : {r : Word32} (g : Random) → RandPromise g r → Sized g → RandPromise g r × StaysSized g r.next
-both g p h = (p, rand_sized g p h)
-
-engine-of-requires : tie.Need-engine-of-requires
-engine-of-requires c κs = search rules
-
-next-u32-requires : tie.Need-next-u32-requires
-next-u32-requires c κs = search rules
-
-with-table-requires : tie.Need-with-table-requires
-with-table-requires c κs = search rules
-
-returns : tie.Need-returns
+pub returns : goal.returns
 returns c =
-    let drawn = c.before.before.before in
-    let engine = drawn.before.before.engine-of.ensures in
-    let start = drawn.before.before.before in
-    both start.args.g (rw c.with-table.ensures (rw engine at drawn.next-u32.ensures))
-    (held start.args.g _ start.well-formed.0)
-
-pub rand-spec : {M : Type 1} → statement M
-rand-spec = tie.close (tie.spec engine-of-requires next-u32-requires with-table-requires returns)
+    let told = rw c.engine_of.ensures at c.next_u32-d.ensures in
+    let drawn : RandPromise c.args.g (record { word = c.next_u32-d.result.word; next = c.with_table-next.result }) = rw c.with_table-next.ensures told in
+    record { rand_promise = drawn; stays_sized = rand_sized c.args.g drawn (held c.args.g _ c.well_formed.0) }

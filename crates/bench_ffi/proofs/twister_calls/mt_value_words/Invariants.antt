@@ -1,0 +1,11 @@
+-- `mt_value_words` meets its contract. The loop's invariant: it has come i words far.
+use Prim.Native.Nat.{◌≤◌, ◌-◌}
+use Rattle.bench_ffi.specs.Loops.{twister_step, twister_word}
+use Rattle.bench_ffi.specs.Steps.{Came}
+use Rattle.bench_ffi.proofs.twister_calls.mt_value_words.Given as goal
+
+abbrev pub invariant-loop-i : goal.invariant-loop-i
+invariant-loop-i l = (l.i ≤ l.n) × Came twister_step twister_word l.initial.next l.i l.next l.word
+
+abbrev pub decreases-loop-i : goal.decreases-loop-i
+decreases-loop-i l = l.n - l.i
