@@ -3,7 +3,7 @@ use native.Mathlib.Omega.{arith}
 use mathlib.Core.Path.{◌≡◌}
 use Prim.Native.Nat.{◌-◌}
 use Rattle.bench_ffi.specs.Steps.{came_nowhere, came_further}
-use Rattle.xoshiro.specs.Generator.{stepped}
+use Rattle.xoshiro.specs.Generator.{stepped, output}
 use Rattle.bench_ffi.proofs.xoshiro_calls.xoshiro_words.Goals as goal
 
 pub loop-i-init : goal.loop-i-init

@@ -1,7 +1,7 @@
 -- `xoshiro_words` meets its contract. The loop's invariant: it has come i words far.
 use Prim.Native.Nat.{◌≤◌, ◌-◌}
 use Rattle.bench_ffi.specs.Steps.{Came}
-use Rattle.xoshiro.specs.Generator.{stepped}
+use Rattle.xoshiro.specs.Generator.{stepped, output}
 use Rattle.bench_ffi.proofs.xoshiro_calls.xoshiro_words.Given as goal
 
 abbrev pub invariant-loop-i : goal.invariant-loop-i
