@@ -2,7 +2,7 @@
 -- (document 01, "Draws", "When the unit says no"; the order, demand 3).
 use Rattle.std.specs.Prelude.{◌≡◌, List, ◌↔◌, ℕ, ◌≤◌, ◌<◌, length}
 use Rattle.std.proofs.Math.Path.{ap}
-use Rattle.std.proofs.Math.Logic.{Iff·trans}
+use Rattle.std.proofs.Math.Logic.Iff
 use Rattle.std.proofs.Common.{arith}
 use Rattle.std.proofs.Math.ListN.{get_or}
 use Rattle.words.specs.Refusal.{answered, empty, too_long, out_of_budget}
@@ -37,18 +37,18 @@ module _ (s : Words) (list : List ℕ) where
 
     -- "EMPTY",
     pub choose_empty_exactly_if : ((choose_by s list budget).refusal ≡ empty) ↔ (length list ≡ 0)
-    choose_empty_exactly_if = Iff·trans (by_check empty (λ e. omega arith) (λ e. omega arith)) list_empty_exactly_if
+    choose_empty_exactly_if = Iff.trans (by_check empty (λ e. omega arith) (λ e. omega arith)) list_empty_exactly_if
 
     -- "TOO LONG",
     pub choose_too_long_exactly_if : ((choose_by s list budget).refusal ≡ too_long) ↔ (list_limit < length list)
-    choose_too_long_exactly_if = Iff·trans (by_check too_long (λ e. omega arith) (λ e. omega arith)) list_too_long_exactly_if
+    choose_too_long_exactly_if = Iff.trans (by_check too_long (λ e. omega arith) (λ e. omega arith)) list_too_long_exactly_if
 
     -- "BUDGET", the last: among the words of the budget none is good for the length.
     pub choose_out_of_budget_exactly_if : ((choose_by s list budget).refusal ≡ out_of_budget)
         ↔ (((0 < length list) × (length list ≤ list_limit)) × NoneGood s (length list) budget)
     unfolding choose_by entry_of place_by
     choose_out_of_budget_exactly_if =
-        Iff·trans (short_exactly_if (list_refusal (length list)) s (length list) budget some_entry (list_not_short (length list)))
+        Iff.trans (short_exactly_if (list_refusal (length list)) s (length list) budget some_entry (list_not_short (length list)))
         (λ h. (list_allowed_exactly_if.0 h.0, h.1), λ h. (list_allowed_exactly_if.1 h.0, h.1))
 
     -- "Every refusal gives its number, value 0 and 0 words used .. Any other part of the answer (place, ..) is 0"

@@ -2,7 +2,7 @@
 -- part of a list that `window_of` hands back (document 01, "Draws", "When the unit says no"; the order, demand 3).
 use Rattle.std.specs.Prelude.{◌≡◌, List, [], ◌↔◌, ◌⊎◌, ℕ, ◌+◌, ◌-◌, ◌≤◌, ◌<◌, length, get_or, drop}
 use Rattle.std.proofs.Common.{sym, ◌∙◌, ap, inl, inr, ⊎_elim, lt_of_not-le, arith, length-drop, length-take-le, get_or-take, get_or-drop}
-use Rattle.std.proofs.Math.Logic.{Iff·trans}
+use Rattle.std.proofs.Math.Logic.Iff
 use Rattle.std.proofs.Math.Decide.{dec_le}
 use Rattle.words.specs.Refusal.{answered, empty, too_long, out_of_budget}
 use Rattle.words.specs.Refusal as refusal
@@ -39,23 +39,23 @@ module _ (s : Words) (n window budget : ℕ) where
 
   -- "EMPTY",
   pub start_empty_exactly_if : ((slice_by s n window budget).refusal ≡ empty) ↔ (n ≡ 0)
-  start_empty_exactly_if = Iff·trans (by_checks empty (λ e. omega arith) (λ e. omega arith)) (slice_empty_exactly_if n window)
+  start_empty_exactly_if = Iff.trans (by_checks empty (λ e. omega arith) (λ e. omega arith)) (slice_empty_exactly_if n window)
 
   -- "TOO LONG",
   pub start_too_long_exactly_if : ((slice_by s n window budget).refusal ≡ too_long) ↔ (list_limit < n)
-  start_too_long_exactly_if = Iff·trans (by_checks too_long (λ e. omega arith) (λ e. omega arith)) (slice_too_long_exactly_if n window)
+  start_too_long_exactly_if = Iff.trans (by_checks too_long (λ e. omega arith) (λ e. omega arith)) (slice_too_long_exactly_if n window)
 
   -- "WINDOW", of a list that is neither,
   pub start_window_exactly_if : ((slice_by s n window budget).refusal ≡ refusal.window)
       ↔ ((0 < n) × (n ≤ list_limit) × ((window ≡ 0) ⊎ (n < window)))
-  start_window_exactly_if = Iff·trans (by_checks refusal.window (λ e. omega arith) (λ e. omega arith)) (slice_window_exactly_if n window)
+  start_window_exactly_if = Iff.trans (by_checks refusal.window (λ e. omega arith) (λ e. omega arith)) (slice_window_exactly_if n window)
 
   -- "BUDGET", the last: among the words of the budget none is good for the number of starts.
   pub start_out_of_budget_exactly_if : ((slice_by s n window budget).refusal ≡ out_of_budget)
       ↔ (((n ≤ list_limit) × (0 < window) × (window ≤ n)) × NoneGood s (n - window + 1) budget)
   unfolding slice_by
   start_out_of_budget_exactly_if =
-      Iff·trans (short_exactly_if (slice_refusal n window) s (n - window + 1) budget a_start (slice_not_short n window))
+      Iff.trans (short_exactly_if (slice_refusal n window) s (n - window + 1) budget a_start (slice_not_short n window))
       (λ h. ((slice_allowed_exactly_if n window).0 h.0, h.1), λ h. ((slice_allowed_exactly_if n window).1 h.0, h.1))
 
   -- An answer: its start leaves room for the window,

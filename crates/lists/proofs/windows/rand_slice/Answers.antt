@@ -1,0 +1,9 @@
+-- `rand_slice` meets its contract: the answer over the lent table, and the table joined to it.
+use Rattle.lists.proofs.windows.rand_slice.Goals as goal
+
+pub returns : goal.returns
+returns c =
+    let engine = c.engine_of.ensures in
+    let answer = c.rand_slice_in-a.ensures in
+    let whole = rw engine at answer.answer in
+    record { answer = rw c.with_table-next.ensures whole; room = answer.room }
