@@ -1,5 +1,5 @@
 -- `twister_run` meets its contract: the invariant is that the draws stand after `used` words where the code says.
-use mathlib.Core.Logic.{inl, inr, ⊎_elim}
+use mathlib.Core.Logic.{inl, inr}
 use mathlib.Core.Path.{sym, ◌∙◌}
 use Prim.Native.Nat.{◌-◌}
 use native.Mathlib.Omega.{arith}
@@ -7,6 +7,7 @@ use Rattle.random.specs.declared.backend.Backend.TheVariants as kinds
 use Rattle.rehearsal.specs.Kinds.{twister_next_lem}
 use Rattle.rehearsal.specs.Standing.{looking_start, looking_on, standing_all, standing_short}
 use Rattle.rehearsal.proofs.rehearsing.twister_run.Goals as goal
+use Rattle.rehearsal.proofs.rehearsing.twister_run.Goals.{then-is_good, else-is_good}
 
 pub loop-settled-init : goal.loop-settled-init
 loop-settled-init c = looking_start _ _
@@ -29,8 +30,10 @@ pub loop-settled-preserved : goal.loop-settled-preserved
 loop-settled-preserved c =
     let good = c.is_good.ensures in
     looking_on c.loop-settled.invariant c.loop-settled-test.true (omega (arith, c.if-d-used.false)) (twister_next_lem c.rand_in-s.ensures)
-    (⊎_elim (λ y. inl (sym good ∙ y.0.true, y.2, y.3 ∙ y.1.ensures)) (λ y. inr (sym good ∙ y.0.false, y.1, y.2))
-    c.if-is_good.branch)
+    (elim c.if-is_good.branch [
+      | then-is_good w ↦ inl (sym good ∙ w.if-is_good.true, w.settled-is, w.bound-is ∙ w.next_bound-bound.ensures)
+      | else-is_good w ↦ inr (sym good ∙ w.if-is_good.false, w.settled-is, w.bound-is)
+    ])
 
 pub returns : goal.returns
 returns c =
