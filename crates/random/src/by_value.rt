@@ -50,8 +50,8 @@ pub fn with_table(e: Engine, mt: [u32; 624]) -> Random
 
 // The next word.
 pub fn rand(g: Random) -> Word32
-    ensures rand_promise { RandPromise g result }
-    ensures stays_sized { StaysSized g result.next }
+    ensures answer { RandPromise g result }
+    ensures sized { StaysSized g result.next }
 {
     let mut moved = g;
     let d = lent::next_u32(engine_of(g), &mut moved.twister.mt);

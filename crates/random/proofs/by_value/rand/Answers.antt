@@ -36,4 +36,4 @@ pub returns : goal.returns
 returns c =
     let told = rw c.engine_of.ensures at c.next_u32-d.ensures in
     let drawn : RandPromise c.args.g (record { word = c.next_u32-d.result.word; next = c.with_table-next.result }) = rw c.with_table-next.ensures told in
-    record { rand_promise = drawn; stays_sized = rand_sized c.args.g drawn (held c.args.g _ c.well_formed.0) }
+    record { answer = drawn; sized = rand_sized c.args.g drawn (held c.args.g _ c.well_formed.0) }
