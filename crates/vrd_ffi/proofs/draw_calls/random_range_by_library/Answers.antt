@@ -1,0 +1,14 @@
+-- `random_range_by_library` meets its contract: an unknown kind, and the library's answer.
+use mathlib.Core.Path.{ap}
+use Rattle.lent_state.specs.AnswersLaws.{unknown_kind, settled}
+use Rattle.vrd_ffi.specs.Handed.{number_of}
+use Rattle.vrd_ffi.proofs.draw_calls.random_range_by_library.Goals as goal
+
+pub returns-then-state-gt3 : goal.returns-then-state-gt3
+returns-then-state-gt3 c = unknown_kind _ _ _ _ c.if-state-gt3.true
+
+pub returns : goal.returns
+returns c =
+    let drawn = rw c.engine_in.ensures at c.random_range_in-a.ensures in
+    let known = c.if-state-gt3.false in
+    rw c.number_from.ensures.told (settled _ _ _ _ known _ _ _ _ _ c.number_from.ensures.state (ap number_of drawn))
