@@ -4,14 +4,14 @@ use Rattle.vrd_ffi.specs.PackedLaws.{packs_kind, kind_below, library_draws, libr
 use Rattle.vrd_ffi.proofs.drawing.by_library.Goals as goal
 
 pub returns-then-state-gt3 : goal.returns-then-state-gt3
-returns-then-state-gt3 c = (packs_kind _ _ _ _ _ (omega (arith, c.if-state-gt3.true)), kind_below _ _)
+returns-then-state-gt3 c =
+    record { draw = packs_kind _ _ _ _ _ (omega (arith, c.if-state-gt3.true)); small = kind_below _ _ }
 
 pub returns : goal.returns
 returns c =
     let room = c.requires in
     let drawn = rw c.engine_in.ensures at c.bounded_in-a.ensures.answer in
     let small = c.bounded_in-a.ensures.small in
-    rw c.pack.ensures (
-      library_draws _ _ _ _ _ room (omega (arith, c.if-state-gt3.false)) c.bounded_in-a.result _ _ drawn small c.settle.ensures,
-      library_below _ _ _ _ _ room c.bounded_in-a.result _ drawn small,
-    )
+    let draw = library_draws _ _ _ _ _ room (omega (arith, c.if-state-gt3.false)) c.bounded_in-a.result _ _ drawn small c.settle.ensures in
+    let below = library_below _ _ _ _ _ room c.bounded_in-a.result _ drawn small in
+    record { draw = rw c.pack.ensures draw; small = rw c.pack.ensures below }

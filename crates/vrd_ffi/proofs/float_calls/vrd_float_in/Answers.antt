@@ -8,15 +8,15 @@ pub returns-then-state-gt3 : goal.returns-then-state-gt3
 returns-then-state-gt3 c = unknown_kind _ _ _ _ c.if-state-gt3.true
 
 pub move_wide-word-requires : goal.move_wide-word-requires
-move_wide-word-requires c = rw c.if-is_wide.true at c.is_IsWide.ensures
+move_wide-word-requires c = rw c.if-is_wide.true at c.is_wide.ensures
 
 pub returns-then-is_wide : goal.returns-then-is_wide
 returns-then-is_wide c =
-    let wide = rw c.if-is_wide.true at c.is_IsWide.ensures in
+    let wide = rw c.if-is_wide.true at c.is_wide.ensures in
     rw c.float_of-value.ensures (float_moved _ _ c.if-state-gt3.false (half_moved _ _ _ _ _ wide (c.move_wide-word.ensures _)))
 
 pub move_narrow-word-requires : goal.move_narrow-word-requires
-move_narrow-word-requires c = (rw c.if-is_wide.false at c.is_IsWide.ensures) c.if-state-gt3.false
+move_narrow-word-requires c = (rw c.if-is_wide.false at c.is_wide.ensures) c.if-state-gt3.false
 
 pub returns : goal.returns
 returns c =

@@ -26,7 +26,7 @@ pub returns-then-first-lt-MISS : goal.returns-then-first-lt-MISS
 returns-then-first-lt-MISS c =
     let f = c.ranges in
     let ordered = test_read f.min f.max c.if-max-min.false in
-    let apart = span_read f.min f.max c.Span-of.ensures in
+    let apart = span_read f.min f.max c.span_of-last.ensures in
     let tried = rw c.below_within-tried.ensures at c.quick_first-first.ensures in
     let hit = c.if-first-lt-MISS.true in
     rw (c.counted.ensures, arg_read f.min, c.at_once.ensures)
@@ -37,7 +37,7 @@ pub returns-then-second-lt-MISS : goal.returns-then-second-lt-MISS
 returns-then-second-lt-MISS c =
     let f = c.ranges in
     let ordered = test_read f.min f.max c.if-max-min.false in
-    let apart = span_read f.min f.max c.Span-of.ensures in
+    let apart = span_read f.min f.max c.span_of-last.ensures in
     let both = second_tried c.quick_first-first.ensures c.if-first-lt-MISS.false (c.quick_pcg-second.ensures _) in
     let tried = rw c.below_within-tried.ensures at both in
     let hit = c.if-second-lt-MISS.true in
@@ -49,9 +49,9 @@ pub returns : goal.returns
 returns c =
     let f = c.ranges in
     let ordered = test_read f.min f.max c.if-max-min.false in
-    let apart = span_read f.min f.max c.Span-of.ensures in
+    let apart = span_read f.min f.max c.span_of-last.ensures in
     let same = both_missed c.quick_first-first.ensures c.if-first-lt-MISS.false (c.quick_pcg-second.ensures _) c.if-second-lt-MISS.false in
-    let (draws, below) = c.by_library.ensures in
+    let told = c.by_library.ensures in
     rw (c.counted-2.ensures, arg_read f.min, c.number_of.ensures)
-    (integer_drawn _ _ f.min f.max _ _ _ ordered apart (omega (arith, c.if-last-eq0.false)) (omega arith) (rw same at draws)
-    (number_below _ _ _ refl below))
+    (integer_drawn _ _ f.min f.max _ _ _ ordered apart (omega (arith, c.if-last-eq0.false)) (omega arith) (rw same at told.draw)
+    (number_below _ _ _ refl told.small))

@@ -9,7 +9,7 @@ pub returns-then-state-gt3 : goal.returns-then-state-gt3
 returns-then-state-gt3 c = unknown_kind _ _ _ _ c.if-state-gt3.true
 
 pub move_wide-word-requires : goal.move_wide-word-requires
-move_wide-word-requires c = rw c.if-is_wide.true at c.is_IsWide.ensures
+move_wide-word-requires c = rw c.if-is_wide.true at c.is_wide.ensures
 
 pub returns-then-is_wide : goal.returns-then-is_wide
 returns-then-is_wide c =
@@ -24,7 +24,7 @@ returns-then-state-eq1 c =
 
 pub pcg32_two-word-requires : goal.pcg32_two-word-requires
 pcg32_two-word-requires c =
-    (rw c.if-is_wide.false at c.is_IsWide.ensures) c.if-state-gt3.false c.if-state-eq1.false
+    (rw c.if-is_wide.false at c.is_wide.ensures) c.if-state-gt3.false c.if-state-eq1.false
 
 pub returns : goal.returns
 returns c =
