@@ -6,10 +6,11 @@ use Rattle.words.specs.declared.outcome.Outcome.{Outcome}
 use Rattle.words.specs.Draw.{good, quotient, refused, gives, bounded_by}
 use Rattle.words.specs.Outcomes.{raised, raised_modulo}
 use Rattle.words.specs.OutcomeLaws.{raised_used, raised_exact}
-use Rattle.words.specs.GoodWord.{good_passes, passes_positive}
-use Rattle.words.specs.BelowItsBound.{quotient_below}
-use Rattle.words.specs.DrawLoop.{told_answers, told_refuses}
-use Rattle.words.specs.OneOutcome.{zero_range_lem, bounded_only}
+use Rattle.words.proofs.GoodWord.{good_passes, passes_positive}
+use Rattle.words.proofs.BelowItsBound.{quotient_below}
+use Rattle.words.proofs.DrawLoop.{told_answers, told_refuses}
+use Rattle.words.specs.OneOutcome.{zero_range_lem}
+use Rattle.words.proofs.OneOutcome.{bounded_only}
 use Rattle.random.specs.declared.backend.Random.{Random}
 use Rattle.random.specs.declared.engine.Engine.{Engine}
 use Rattle.random.specs.declared.engine.EngineWord.{EngineWord}

@@ -7,9 +7,10 @@ use Rattle.words.specs.declared.outcome.Outcome.{Outcome}
 use Rattle.words.specs.Draw.{Words, Drawn, all, short, draws, refused, bounded_by, outcome_of}
 use Rattle.words.specs.Outcomes.{mapped, raised}
 use Rattle.words.specs.OutcomeLaws.{worked_refused, refused_whole}
-use Rattle.words.specs.OneOutcome.{Bounded, zero_range_lem, answers, out_of_budget_lem, bounded_is}
-use Rattle.words.specs.LargerBudget.{bounded_larger, call_larger}
-use Rattle.words.specs.UsedWithinBudget.{bounded_within, draws_within}
+use Rattle.words.specs.OneOutcome.{Bounded, zero_range_lem, answers, out_of_budget_lem}
+use Rattle.words.proofs.OneOutcome.{bounded_is}
+use Rattle.words.proofs.LargerBudget.{bounded_larger, call_larger}
+use Rattle.words.proofs.UsedWithinBudget.{bounded_within, draws_within}
 use Rattle.random.specs.declared.backend.Random.{Random}
 use Rattle.random.specs.Generator.{words_of}
 use Rattle.bounded.specs.Answers.{answer_from}

@@ -4,7 +4,8 @@ use Rattle.std.specs.Prelude.{◌≡◌, Bool, true, false, ℕ, ◌+◌, ◌≤
 use Rattle.std.proofs.Math.Path.{sym, ap}
 use Rattle.std.proofs.Common.{◌∙◌}
 use Rattle.words.specs.Draw.{good, quotient}
-use Rattle.words.specs.DrawLoop.{Told, Searching, searching_start, searching_good, searching_bad, searching_out, told_zero}
+use Rattle.words.specs.DrawLoop.{Told, Searching}
+use Rattle.words.proofs.DrawLoop.{searching_start, searching_good, searching_bad, searching_out, told_zero}
 use Rattle.random.specs.declared.backend.Random.{Random}
 use Rattle.random.specs.Generator.{word_of, step, later, words_of, rand_of}
 use Rattle.random.specs.declared.by_value.Word32.{Word32}

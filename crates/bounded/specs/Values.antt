@@ -2,7 +2,7 @@
 -- bits. A lent promise is the by-value promise of what engine and table make together, so they are laws of the lent calls too.
 use Rattle.std.specs.Prelude.{◌≡◌, ℕ, ◌≤◌, ◌<◌}
 use Rattle.words.specs.Refusal.{answered}
-use Rattle.words.specs.BelowItsBound.{bounded_below}
+use Rattle.words.proofs.BelowItsBound.{bounded_below}
 use Rattle.random.specs.declared.backend.Random.{Random}
 use Rattle.random.specs.Generator.{words_of}
 use Rattle.random.specs.Sizes.{words_sized}

@@ -7,8 +7,10 @@ use Rattle.words.specs.Refusal.{answered, out_of_budget}
 use Rattle.words.specs.declared.outcome.Outcome.{Outcome}
 use Rattle.words.specs.Draw.{Words, quotient, refused, gives, bounded_by}
 use Rattle.words.specs.GoodWord.{FirstGood, NoneGood}
-use Rattle.words.specs.BelowItsBound.{WordSized, first_below}
-use Rattle.words.specs.OneOutcome.{Bounded, zero_range_lem, bounded_is, bounded_only}
+use Rattle.words.specs.BelowItsBound.{WordSized}
+use Rattle.words.proofs.BelowItsBound.{first_below}
+use Rattle.words.specs.OneOutcome.{Bounded, zero_range_lem}
+use Rattle.words.proofs.OneOutcome.{bounded_is, bounded_only}
 use Rattle.words.specs.OneOutcome as one
 use Rattle.bounded.specs.Budgeted.{Budgeted, checked_budgeted}
 use Rattle.lists.specs.Checks.{unless}

@@ -3,9 +3,11 @@
 use Rattle.std.specs.Prelude.{◌≡◌, refl, Bool, true, false, List, [], ◌∷◌, ◌++◌, ℕ, ◌+◌, ◌-◌, ◌≤◌, ◌<◌, leb, length}
 use Rattle.std.proofs.Common.{sym, ◌∙◌, ap, append_assoc, arith, leb-true, leb-false}
 use Rattle.words.specs.Draw.{Words, after, good, quotient, all, short, draws}
-use Rattle.words.specs.GoodWord.{Fails, good_passes, bad_fails, fails_for_zero, FirstGood, NoneGood}
-use Rattle.words.specs.DrawAfterDraw.{next_settled, next_short}
-use Rattle.words.specs.DrawsLoop.{Running, running_start, running_done}
+use Rattle.words.specs.GoodWord.{Fails, FirstGood, NoneGood}
+use Rattle.words.proofs.GoodWord.{good_passes, bad_fails, fails_for_zero}
+use Rattle.words.proofs.DrawAfterDraw.{next_settled, next_short}
+use Rattle.words.specs.DrawsLoop.{Running}
+use Rattle.words.proofs.DrawsLoop.{running_start, running_done}
 
 -- None of the first k words is good for the next bound; where no bound is left, no word is looked at.
 abbrev pub Missed : Words → List ℕ → ℕ → Type 0

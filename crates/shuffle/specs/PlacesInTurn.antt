@@ -3,9 +3,11 @@
 use Rattle.std.specs.Prelude.{◌≡◌, true, List, ◌∷◌, ◌++◌, ℕ, suc, ◌+◌, ◌-◌, ◌≤◌, ◌<◌, length, get_or}
 use Rattle.std.proofs.Common.{◌∙◌, ap, arith}
 use Rattle.words.specs.Draw.{Words, all}
-use Rattle.words.specs.EachInTurn.{InTurn, each_in_turn}
-use Rattle.words.specs.BelowItsBound.{WordSized, draws_below_lem}
-use Rattle.words.specs.SettledNeverFalls.{as_many_values}
+use Rattle.words.specs.EachInTurn.{InTurn}
+use Rattle.words.proofs.EachInTurn.{each_in_turn}
+use Rattle.words.specs.BelowItsBound.{WordSized}
+use Rattle.words.proofs.BelowItsBound.{draws_below_lem}
+use Rattle.words.proofs.SettledNeverFalls.{as_many_values}
 use Rattle.random.specs.declared.backend.Random.{Random}
 use Rattle.random.specs.Generator.{words_of}
 use Rattle.random.specs.Sizes.{words_sized}

@@ -4,7 +4,7 @@ use Rattle.std.specs.Prelude.{◌≡◌, refl, Bool, true, false, cond, List, �
 use Rattle.std.proofs.Common.{ap, arith}
 use Rattle.words.specs.Refusal.{answered, too_long}
 use Rattle.words.specs.Draw.{Words, refused, outcome_of}
-use Rattle.words.specs.LargerBudget.{call_larger}
+use Rattle.words.proofs.LargerBudget.{call_larger}
 use Rattle.random.specs.declared.backend.Random.{Random}
 use Rattle.random.specs.Generator.{words_of}
 use Rattle.bounded.specs.Answers.{answer_from}

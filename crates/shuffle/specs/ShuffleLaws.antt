@@ -4,7 +4,7 @@ use Rattle.std.proofs.Common.{sym, ◌∙◌, ap, arith, lt-ltb, le-ltb}
 use Rattle.words.specs.Refusal.{too_long, out_of_budget}
 use Rattle.words.specs.declared.outcome.Outcome.{Outcome}
 use Rattle.words.specs.Draw.{Words, all, short, refused, gives, outcome_of}
-use Rattle.words.specs.OneOutcomeOfDraws.{draws_done}
+use Rattle.words.proofs.OneOutcomeOfDraws.{draws_done}
 use Rattle.lists.specs.Limit.{list_limit}
 use Rattle.rehearsal.specs.BoundsLaws.{bounds_none}
 use Rattle.shuffle.specs.Swap.{arranged}

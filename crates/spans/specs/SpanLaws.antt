@@ -8,8 +8,9 @@ use Rattle.words.specs.Refusal.{order, out_of_budget}
 use Rattle.words.specs.Draw.{Words, refused, gives, bounded_by}
 use Rattle.words.specs.Outcomes.{raised}
 use Rattle.words.specs.GoodWord.{FirstGood}
-use Rattle.words.specs.OneOutcome.{out_of_budget_lem, bounded_only}
-use Rattle.words.specs.AnswerIsFirst.{first_is_answer}
+use Rattle.words.specs.OneOutcome.{out_of_budget_lem}
+use Rattle.words.proofs.OneOutcome.{bounded_only}
+use Rattle.words.proofs.AnswerIsFirst.{first_is_answer}
 use Rattle.signed.specs.Signed.{gap}
 use Rattle.random.specs.declared.engine.Engine.{Engine}
 use Rattle.random.specs.declared.engine.EngineWord.{EngineWord}

@@ -9,8 +9,10 @@ use Rattle.words.specs.Refusal.{answered, order, out_of_budget}
 use Rattle.words.specs.declared.outcome.Outcome.{Outcome}
 use Rattle.words.specs.Draw.{Words, quotient, refused, gives}
 use Rattle.words.specs.GoodWord.{FirstGood, NoneGood}
-use Rattle.words.specs.BelowItsBound.{WordSized, first_below}
+use Rattle.words.specs.BelowItsBound.{WordSized}
+use Rattle.words.proofs.BelowItsBound.{first_below}
 use Rattle.words.specs.OneOutcome as one
+use Rattle.words.proofs.OneOutcome.{bounded_is, bounded_only}
 use Rattle.signed.specs.Signed.{gap}
 use Rattle.signed.specs.GapLaws.{gap_least, gap_most}
 use Rattle.words.specs.Outcomes.{worked_on, raised}
@@ -30,13 +32,13 @@ pub data Spanned (s : Words) (last budget : ℕ) : Outcome → Type 0 where
 pub spanned_only : {s : Words} {last budget : ℕ} {o : Outcome} → Spanned s last budget o → span_by s last budget ≡ o
 spanned_only {s} {last} {budget} (single z) = span_none s last budget z
 spanned_only {s} {last} {budget} (answers k h f) =
-    span_drawn s last budget h ∙ one.bounded_only s (last + 1) budget (one.answers k (omega arith) f)
+    span_drawn s last budget h ∙ bounded_only s (last + 1) budget (one.answers k (omega arith) f)
 spanned_only {s} {last} {budget} (out_of_budget_lem h f) =
-    span_drawn s last budget h ∙ one.bounded_only s (last + 1) budget (one.out_of_budget_lem (omega arith) f)
+    span_drawn s last budget h ∙ bounded_only s (last + 1) budget (one.out_of_budget_lem (omega arith) f)
 
 pub spanned_is : (s : Words) (last budget : ℕ) → Spanned s last budget (span_by s last budget)
 spanned_is s zero budget = rw (span_none s 0 budget refl) (single refl)
-spanned_is s (suc n) budget = rw (span_drawn s (suc n) budget (omega arith)) (go (one.bounded_is s (suc n + 1) budget))
+spanned_is s (suc n) budget = rw (span_drawn s (suc n) budget (omega arith)) (go (bounded_is s (suc n + 1) budget))
   where
     go : {o : Outcome} → one.Bounded s (suc n + 1) budget o → Spanned s (suc n) budget o
     go (one.zero_range_lem z) = absurd (omega arith)

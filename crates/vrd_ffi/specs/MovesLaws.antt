@@ -2,8 +2,8 @@
 use Rattle.std.specs.Prelude.{◌≡◌, refl, Bool, true, false, cond, List, ℕ, zero, suc, ◌≤◌, ◌<◌, ◌/◌, ◌*◌, ◌%◌, ◌^◌, ◌+◌, eqb, get_or}
 use Rattle.std.proofs.Common.{sym, ◌∙◌, ap, arith, mod-lt, eq-eqb, ne_eqb}
 use Rattle.words.specs.Draw.{good, quotient}
-use Rattle.words.specs.BelowItsBound.{quotient_below}
-use Rattle.words.specs.GoodWord.{good_passes, passes_good, passes_positive}
+use Rattle.words.proofs.BelowItsBound.{quotient_below}
+use Rattle.words.proofs.GoodWord.{good_passes, passes_good, passes_positive}
 use Rattle.mersenne_twister.specs.declared.Drawn32.{Drawn32}
 use Rattle.mersenne_twister.specs.declared.Drawn64.{Drawn64}
 use Rattle.mersenne_twister.specs.declared.table.Step.{Step}

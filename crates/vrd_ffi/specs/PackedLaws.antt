@@ -5,12 +5,14 @@ use borrow.Author.Tests.{eq-eqb, ne_eqb, eqb-true, eqb-false, lt-ltb, le-ltb}
 use Rattle.std.proofs.Math.Dec.{eqb}
 use Rattle.std.proofs.Math.Bool.{true, false}
 use Rattle.std.proofs.Math.Path.{refl, ap}
-use Rattle.words.specs.AnswerIsFirst.{first_is_answer}
+use Rattle.words.proofs.AnswerIsFirst.{first_is_answer}
 use Rattle.words.specs.declared.outcome.Outcome.{Outcome}
 use Rattle.words.specs.Draw.{Words, quotient, refused, bounded_by}
 use Rattle.words.specs.Draw as draw
-use Rattle.words.specs.GoodWord.{Passes, FirstGood, good_passes}
-use Rattle.words.specs.OneOutcome.{Bounded, zero_range_lem, answers, out_of_budget_lem, bounded_is}
+use Rattle.words.specs.GoodWord.{Passes, FirstGood}
+use Rattle.words.proofs.GoodWord.{good_passes}
+use Rattle.words.specs.OneOutcome.{Bounded, zero_range_lem, answers, out_of_budget_lem}
+use Rattle.words.proofs.OneOutcome.{bounded_is}
 use Rattle.words.specs.Refusal as refusal
 use Rattle.random.specs.Generator.{step, later, word_of, words_of, rand_of}
 use Rattle.random.specs.GeneratorLaws.{later_none, later_one, word_at}

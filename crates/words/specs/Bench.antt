@@ -1,12 +1,10 @@
 -- The rows of document 01's bench examples, those marked *, that draw below a bound from given words: one table, for the single table of
 -- all of them.
-use Rattle.std.specs.Prelude.{refl, ◌&&◌, List, [], ◌∷◌, ℕ, ◌+◌, ◌*◌, ◌%◌, ◌^◌, eqb}
-use Rattle.std.proofs.Common.{lit<}
+use Rattle.std.specs.Prelude.{◌&&◌, List, [], ◌∷◌, ℕ, ◌+◌, ◌*◌, ◌%◌, ◌^◌, eqb}
 use Rattle.words.specs.declared.outcome.Outcome.{Outcome}
-use Rattle.words.specs.Draw.{listed, good, quotient, first, first_good, bounded_by}
+use Rattle.words.specs.Draw.{listed, good, quotient, bounded_by}
 use Rattle.words.specs.Count.{count}
-use Rattle.words.specs.EqualShares.{equal_shares}
-use Rattle.words.specs.Table.{Row, Holds, end, ◌&◌}
+use Rattle.words.specs.Table.{Row, ◌&◌}
 
 -- a number
 abbrev pub number : ℕ → ℕ → Row
@@ -56,14 +54,3 @@ bench =
     -- below 0x80000000: word 0x80000000 gives 1073741824
     ∷ below 0x8000_0000 (0x8000_0000 ∷ []) 1 (told 0 1073741824 1)
     ∷ []
-
-pub bench_holds : Holds bench
-unfolding bounded_by first_good first
-bench_holds =
-    refl & refl & refl & refl & refl & refl & refl &
-    refl & refl & refl & refl &
-    equal_shares 6 0 (lit< tt) & equal_shares 6 1 (lit< tt) & equal_shares 6 2 (lit< tt) &
-    equal_shares 6 3 (lit< tt) & equal_shares 6 4 (lit< tt) & equal_shares 6 5 (lit< tt) &
-    refl & refl &
-    refl & refl & refl &
-    refl & end

@@ -9,19 +9,11 @@ pub mod FirstPlace
 pub mod GoodWord
 -- The order's demand 3, of one draw
 pub mod OneOutcome
-pub mod AnsweredExactlyIf
-pub mod RefusedExactlyIf
-pub mod AnswerIsFirst
 -- and of draws one after the other under one budget,
 pub mod OneOutcomeOfDraws
-pub mod OneDraw
 pub mod DrawAfterDraw
 pub mod EachInTurn
 -- of both as the budget grows, as the words beyond it differ, and of their values.
-pub mod UsedWithinBudget
-pub mod LargerBudget
-pub mod SettledNeverFalls
-pub mod WordsWithinBudget
 pub mod BelowItsBound
 -- Every value has its share of all words.
 pub mod Count

@@ -3,7 +3,7 @@ use mathlib.Core.Path.{sym, ◌∙◌, ap}
 use Prim.Native.Nat.{ℕ, ◌%◌, ◌^◌}
 use native.Mathlib.Omega.{arith}
 use lib.Dec.{leb}
-use Rattle.words.specs.Threshold.{none_for_zero, good_above, good_by_threshold}
+use Rattle.words.proofs.ThresholdLaws.{none_for_zero, good_above, good_by_threshold}
 use Rattle.words.proofs.is_good.Goals as goal
 
 pub returns-then-low-bound : goal.returns-then-low-bound

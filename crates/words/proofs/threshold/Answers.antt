@@ -2,7 +2,7 @@
 use mathlib.Core.Path.{◌≡◌, sym}
 use Prim.Native.Nat.{◌+◌, ◌-◌, ◌^◌}
 use native.Mathlib.Omega.{arith}
-use Rattle.words.specs.Threshold.{threshold_zero, threshold_of_negative}
+use Rattle.words.proofs.ThresholdLaws.{threshold_zero, threshold_of_negative}
 use Rattle.words.proofs.threshold.Goals as goal
 
 pub returns-then-r-eq0 : goal.returns-then-r-eq0

@@ -3,7 +3,7 @@ use mathlib.Core.Path.{sym}
 use mathlib.Core.Bool.{true≢false}
 use Prim.Native.Nat.{◌-◌, ◌<◌}
 use native.Mathlib.Omega.{arith}
-use Rattle.words.specs.BelowItsBound.{quotient_below}
+use Rattle.words.proofs.BelowItsBound.{quotient_below}
 use Rattle.bounded.specs.Trying.{trying_start, trying_zero, trying_good, trying_bad, trying_out}
 use Rattle.bounded.proofs.draw.draw_in.Goals as goal
 

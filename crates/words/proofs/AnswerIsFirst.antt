@@ -5,8 +5,10 @@ use Rattle.std.proofs.Common.{arith}
 use Rattle.words.specs.Refusal.{answered}
 use Rattle.words.specs.declared.outcome.Outcome.{Outcome}
 use Rattle.words.specs.Draw.{Words, gives, bounded_by}
-use Rattle.words.specs.GoodWord.{FirstGood, passes_positive}
-use Rattle.words.specs.OneOutcome.{Bounded, zero_range_lem, answers, out_of_budget_lem, bounded_is, bounded_only}
+use Rattle.words.specs.GoodWord.{FirstGood}
+use Rattle.words.proofs.GoodWord.{passes_positive}
+use Rattle.words.specs.OneOutcome.{Bounded, zero_range_lem, answers, out_of_budget_lem}
+use Rattle.words.proofs.OneOutcome.{bounded_is, bounded_only}
 
 -- an answer is that of the first good word,
 pub answer_is_first : (s : Words) (r budget : ℕ) → (bounded_by s r budget).refusal ≡ answered

@@ -4,8 +4,9 @@ use Rattle.std.specs.Prelude.{◌≡◌, refl, List, ◌∷◌, ℕ, ◌+◌, �
 use Rattle.std.proofs.Common.{arith}
 use Rattle.words.specs.Draw.{Words, after, Drawn, all, short, more, draws}
 use Rattle.words.specs.GoodWord.{FirstGood}
-use Rattle.words.specs.OneOutcomeOfDraws.{Drawing, done, settled, later_short, now_short, drawing_is, draws_settled}
-use Rattle.words.specs.LargerBudget.{first_larger}
+use Rattle.words.specs.OneOutcomeOfDraws.{Drawing, done, settled, later_short, now_short}
+use Rattle.words.proofs.OneOutcomeOfDraws.{drawing_is, draws_settled}
+use Rattle.words.proofs.LargerBudget.{first_larger}
 
 -- The number of draws settled.
 abbrev pub settled_of : Drawn → ℕ

@@ -3,8 +3,10 @@ use Rattle.std.specs.Prelude.{◌≡◌, List, ℕ, ◌≤◌}
 use Rattle.std.proofs.Common.{arith}
 use Rattle.words.specs.declared.outcome.Outcome.{Outcome}
 use Rattle.words.specs.Draw.{Words, bounded_by, all, draws}
-use Rattle.words.specs.OneOutcome.{Bounded, zero_range_lem, answers, out_of_budget_lem, bounded_is}
-use Rattle.words.specs.OneOutcomeOfDraws.{Drawing, done, settled, drawing_is}
+use Rattle.words.specs.OneOutcome.{Bounded, zero_range_lem, answers, out_of_budget_lem}
+use Rattle.words.proofs.OneOutcome.{bounded_is}
+use Rattle.words.specs.OneOutcomeOfDraws.{Drawing, done, settled}
+use Rattle.words.proofs.OneOutcomeOfDraws.{drawing_is}
 
 pub bounded_within : (s : Words) (r budget : ℕ) → (bounded_by s r budget).used ≤ budget
 bounded_within s r budget = go (bounded_is s r budget)

@@ -6,7 +6,8 @@ use Rattle.words.specs.Refusal.{zero_range, out_of_budget}
 use Rattle.words.specs.declared.outcome.Outcome.{Outcome}
 use Rattle.words.specs.Draw.{Words, bounded_by}
 use Rattle.words.specs.GoodWord.{NoneGood}
-use Rattle.words.specs.OneOutcome.{Bounded, zero_range_lem, answers, out_of_budget_lem, bounded_is}
+use Rattle.words.specs.OneOutcome.{Bounded, zero_range_lem, answers, out_of_budget_lem}
+use Rattle.words.proofs.OneOutcome.{bounded_is}
 
 pub zero_range_exactly_if : (s : Words) (r budget : ℕ) → ((bounded_by s r budget).refusal ≡ zero_range) ↔ (r ≡ 0)
 zero_range_exactly_if s r budget = (only_if (bounded_is s r budget), exactly (bounded_is s r budget))

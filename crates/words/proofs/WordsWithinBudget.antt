@@ -5,8 +5,10 @@ use Rattle.std.proofs.Common.{sym, arith}
 use Rattle.words.specs.declared.outcome.Outcome.{Outcome}
 use Rattle.words.specs.Draw.{Words, bounded_by, Drawn, draws}
 use Rattle.words.specs.GoodWord.{FirstGood, NoneGood}
-use Rattle.words.specs.OneOutcome.{Bounded, zero_range_lem, answers, out_of_budget_lem, bounded_is, bounded_only}
-use Rattle.words.specs.OneOutcomeOfDraws.{Drawing, done, settled, later_short, now_short, drawing_is, drawing_only}
+use Rattle.words.specs.OneOutcome.{Bounded, zero_range_lem, answers, out_of_budget_lem}
+use Rattle.words.proofs.OneOutcome.{bounded_is, bounded_only}
+use Rattle.words.specs.OneOutcomeOfDraws.{Drawing, done, settled, later_short, now_short}
+use Rattle.words.proofs.OneOutcomeOfDraws.{drawing_is, drawing_only}
 
 -- Two sequences have the same first n words.
 abbrev pub Agree : Words → Words → ℕ → Type 0

@@ -6,7 +6,8 @@ use Rattle.words.specs.Refusal.{answered}
 use Rattle.words.specs.declared.outcome.Outcome.{Outcome}
 use Rattle.words.specs.Draw.{Words, bounded_by}
 use Rattle.words.specs.GoodWord.{Passes}
-use Rattle.words.specs.OneOutcome.{Bounded, zero_range_lem, answers, out_of_budget_lem, bounded_is}
+use Rattle.words.specs.OneOutcome.{Bounded, zero_range_lem, answers, out_of_budget_lem}
+use Rattle.words.proofs.OneOutcome.{bounded_is}
 
 pub answered_exactly_if : (s : Words) (r budget : ℕ) → 0 < r
     → ((bounded_by s r budget).refusal ≡ answered) ↔ ((k : ℕ) × (k < budget) × Passes r (s k))

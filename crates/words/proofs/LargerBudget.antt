@@ -5,8 +5,9 @@ use Rattle.std.proofs.Common.{sym, ◌∙◌, arith}
 use Rattle.words.specs.Refusal.{answered}
 use Rattle.words.specs.Draw.{Words, bounded_by, Drawn, all, short, draws, outcome_of}
 use Rattle.words.specs.GoodWord.{FirstGood}
-use Rattle.words.specs.AnswerIsFirst.{answer_is_first, first_is_answer}
-use Rattle.words.specs.OneOutcomeOfDraws.{Drawing, done, settled, drawing_is, drawing_only}
+use Rattle.words.proofs.AnswerIsFirst.{answer_is_first, first_is_answer}
+use Rattle.words.specs.OneOutcomeOfDraws.{Drawing, done, settled}
+use Rattle.words.proofs.OneOutcomeOfDraws.{drawing_is, drawing_only}
 
 -- the first good word stays the first
 pub first_larger : {s : Words} {r b b' k : ℕ} → b ≤ b' → FirstGood s r b k → FirstGood s r b' k
