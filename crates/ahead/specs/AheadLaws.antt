@@ -7,17 +7,17 @@ use Rattle.std.proofs.Math.Seq.{drop-nil}
 use Rattle.std.proofs.lemmas.List.{set_at, get_or_at}
 use Rattle.words.specs.Draw.{Words}
 use Rattle.mersenne_twister.specs.Table as twister
-use Rattle.mersenne_twister.specs.declared.Drawn32 as twister-drawn
+use Rattle.mersenne_twister.specs.declared.Drawn32 as twister_drawn
 use Rattle.mersenne_twister.specs.declared.table.Step.{Step}
 use Rattle.pcg.specs.Pcg32 as pcg32
 use Rattle.pcg.specs.Pcg64 as pcg64
-use Rattle.pcg.specs.declared.pcg32.Drawn32 as pcg32-drawn
-use Rattle.pcg.specs.declared.pcg32.Pcg32 as pcg32-type
-use Rattle.pcg.specs.declared.pcg64.Drawn32 as pcg64-drawn
-use Rattle.pcg.specs.declared.pcg64.Pcg64 as pcg64-type
+use Rattle.pcg.specs.declared.pcg32.Drawn32 as pcg32_drawn
+use Rattle.pcg.specs.declared.pcg32.Pcg32 as pcg32_type
+use Rattle.pcg.specs.declared.pcg64.Drawn32 as pcg64_drawn
+use Rattle.pcg.specs.declared.pcg64.Pcg64 as pcg64_type
 use Rattle.xoshiro.specs.Generator as xoshiro
-use Rattle.xoshiro.specs.declared.Drawn32 as xoshiro-drawn
-use Rattle.xoshiro.specs.declared.Xoshiro256PlusPlus as xoshiro-type
+use Rattle.xoshiro.specs.declared.Drawn32 as xoshiro_drawn
+use Rattle.xoshiro.specs.declared.Xoshiro256PlusPlus as xoshiro_type
 use Rattle.random.specs.declared.backend.Backend.TheVariants.{Xoshiro256PlusPlus, MersenneTwister, Pcg32, Pcg64}
 use Rattle.random.specs.declared.backend.Random.{Random}
 use Rattle.random.specs.Generator.{gen, word_of, words_of, step, later}
@@ -86,33 +86,33 @@ pub put_all : {g h : Random} {l l' : List ℕ} → WordsPut g (length l) l l' h
 put_all {l = l} p = (p.words ∙ rw (drop_all (length l) l (omega arith), append-nil), p.moved)
 
 -- one more of each kind, as the kind's own call draws it
-pub xoshiro_more : {x y : xoshiro-type.Xoshiro256PlusPlus} {n : ℕ} {l l' : List ℕ} {d : xoshiro-drawn.Drawn32} → n < length l
+pub xoshiro_more : {x y : xoshiro_type.Xoshiro256PlusPlus} {n : ℕ} {l l' : List ℕ} {d : xoshiro_drawn.Drawn32} → n < length l
     → XoshiroPut x n l l' y → d ≡ xoshiro.drawn_high y → XoshiroPut x (n + 1) l (set l' n d.word) d.next
 unfolding word_of step
 xoshiro_more more p e t =
-    put_more more (p t) (ap (λ (d : xoshiro-drawn.Drawn32). d.word) e)
-    (ap (λ (d : xoshiro-drawn.Drawn32). gen (Xoshiro256PlusPlus d.next) t) e)
+    put_more more (p t) (ap (λ (d : xoshiro_drawn.Drawn32). d.word) e)
+    (ap (λ (d : xoshiro_drawn.Drawn32). gen (Xoshiro256PlusPlus d.next) t) e)
 
 -- The same of Pcg32.
-pub pcg32_more : {p q : pcg32-type.Pcg32} {n : ℕ} {l l' : List ℕ} {d : pcg32-drawn.Drawn32} → n < length l
+pub pcg32_more : {p q : pcg32_type.Pcg32} {n : ℕ} {l l' : List ℕ} {d : pcg32_drawn.Drawn32} → n < length l
     → Pcg32Put p n l l' q → d ≡ pcg32.drawn q → Pcg32Put p (n + 1) l (set l' n d.word) d.next
 unfolding word_of step
 pcg32_more more p e t =
-    put_more more (p t) (ap (λ (d : pcg32-drawn.Drawn32). d.word) e)
-    (ap (λ (d : pcg32-drawn.Drawn32). gen (Pcg32 d.next) t) e)
+    put_more more (p t) (ap (λ (d : pcg32_drawn.Drawn32). d.word) e)
+    (ap (λ (d : pcg32_drawn.Drawn32). gen (Pcg32 d.next) t) e)
 
 -- The same of Pcg64, by the high half of its word.
-pub pcg64_more : {p q : pcg64-type.Pcg64} {n : ℕ} {l l' : List ℕ} {d : pcg64-drawn.Drawn32} → n < length l
+pub pcg64_more : {p q : pcg64_type.Pcg64} {n : ℕ} {l l' : List ℕ} {d : pcg64_drawn.Drawn32} → n < length l
     → Pcg64Put p n l l' q → d ≡ pcg64.drawn_high q → Pcg64Put p (n + 1) l (set l' n d.word) d.next
 unfolding word_of step
 pcg64_more more p e t =
-    put_more more (p t) (ap (λ (d : pcg64-drawn.Drawn32). d.word) e)
-    (ap (λ (d : pcg64-drawn.Drawn32). gen (Pcg64 d.next) t) e)
+    put_more more (p t) (ap (λ (d : pcg64_drawn.Drawn32). d.word) e)
+    (ap (λ (d : pcg64_drawn.Drawn32). gen (Pcg64 d.next) t) e)
 
 -- The same of the twister, whose table is lent: the step leaves the word and the next position.
 pub twister_more : {m m' m'' : List ℕ} {p p' n : ℕ} {l l' : List ℕ} {s : Step} → n < length l
     → TwisterPut m p n l l' m' p' → twister.stepped s m'' ≡ twister.drawn_in m' p' → TwisterPut m p (n + 1) l (set l' n s.word) m'' s.mti
 unfolding word_of step
 twister_more more p e =
-    put_more more p (ap (λ (d : twister-drawn.Drawn32). d.word) e)
-    (ap (λ (d : twister-drawn.Drawn32). gen MersenneTwister d.next) e)
+    put_more more p (ap (λ (d : twister_drawn.Drawn32). d.word) e)
+    (ap (λ (d : twister_drawn.Drawn32). gen MersenneTwister d.next) e)

@@ -1,27 +1,27 @@
 -- What each loop promises of its answer: its contract in src/, by name. The other exports have the promises of the library's calls.
 use Rattle.std.specs.Prelude.{List, ◌≡◌, ℕ}
 use Rattle.mersenne_twister.specs.Table.{held, stepped}
-use Rattle.mersenne_twister.specs.declared.Drawn32 as drawn-twister
+use Rattle.mersenne_twister.specs.declared.Drawn32 as drawn_twister
 use Rattle.mersenne_twister.specs.declared.MersenneTwister.{MersenneTwister}
 use Rattle.mersenne_twister.specs.declared.table.Step.{Step}
-use Rattle.pcg.specs.declared.pcg32.Drawn32 as drawn-pcg32
+use Rattle.pcg.specs.declared.pcg32.Drawn32 as drawn_pcg32
 use Rattle.pcg.specs.declared.pcg32.Pcg32.{Pcg32}
-use Rattle.pcg.specs.declared.pcg64.Drawn64 as drawn-pcg64
+use Rattle.pcg.specs.declared.pcg64.Drawn64 as drawn_pcg64
 use Rattle.pcg.specs.declared.pcg64.Pcg64.{Pcg64}
-use Rattle.xoshiro.specs.declared.Drawn64 as drawn-xoshiro
+use Rattle.xoshiro.specs.declared.Drawn64 as drawn_xoshiro
 use Rattle.xoshiro.specs.declared.Xoshiro256PlusPlus.{Xoshiro256PlusPlus}
 use Rattle.bench_ffi.specs.Loops.{pcg32_words, pcg64_words, twister_words, xoshiro_words}
 
 -- a generator's own words in a row: kind 0,
-abbrev pub XoshiroWordsPromise : Xoshiro256PlusPlus → ℕ → drawn-xoshiro.Drawn64 → Type 0
+abbrev pub XoshiroWordsPromise : Xoshiro256PlusPlus → ℕ → drawn_xoshiro.Drawn64 → Type 0
 XoshiroWordsPromise g n r = r ≡ xoshiro_words n g
 
 -- kind 2,
-abbrev pub Pcg32WordsPromise : Pcg32 → ℕ → drawn-pcg32.Drawn32 → Type 0
+abbrev pub Pcg32WordsPromise : Pcg32 → ℕ → drawn_pcg32.Drawn32 → Type 0
 Pcg32WordsPromise g n r = r ≡ pcg32_words n g
 
 -- kind 3,
-abbrev pub Pcg64WordsPromise : Pcg64 → ℕ → drawn-pcg64.Drawn64 → Type 0
+abbrev pub Pcg64WordsPromise : Pcg64 → ℕ → drawn_pcg64.Drawn64 → Type 0
 Pcg64WordsPromise g n r = r ≡ pcg64_words n g
 
 -- kind 1 over a lent table,
@@ -29,5 +29,5 @@ abbrev pub TwisterWordsInPromise : List ℕ → ℕ → ℕ → Step → List �
 TwisterWordsInPromise mt mti n r mt' = stepped r mt' ≡ twister_words n (held mt mti)
 
 -- and by value
-abbrev pub TwisterWordsPromise : MersenneTwister → ℕ → drawn-twister.Drawn32 → Type 0
+abbrev pub TwisterWordsPromise : MersenneTwister → ℕ → drawn_twister.Drawn32 → Type 0
 TwisterWordsPromise g n r = r ≡ twister_words n g

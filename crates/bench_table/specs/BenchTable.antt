@@ -2,7 +2,8 @@
 -- shuffle, floats and filled bytes each have their rows beside their definitions; here they are joined.
 use Rattle.std.specs.Prelude.{List, ◌++◌}
 use Rattle.filling.specs.FillBench.{fill_bench, fill_bench_holds}
-use Rattle.floats.specs.Bench.{float_bench, float_bench_holds}
+use Rattle.floats.specs.Bench.{float_bench}
+use Rattle.floats.proofs.Bench.{float_bench_holds}
 use Rattle.shuffle.specs.ShuffleBench as shuffled
 use Rattle.spans.specs.SpanBench.{span_bench, span_bench_holds}
 use Rattle.words.specs.Bench as below

@@ -1,13 +1,13 @@
 -- The whole words that a buffer has room for, kind by kind, as the loop over that kind's small state writes them; and what they are of the
 -- generator that holds the state.
 use Rattle.std.specs.Prelude.{refl, List, ℕ}
-use Rattle.mersenne_twister.specs.declared.MersenneTwister as twister-type
+use Rattle.mersenne_twister.specs.declared.MersenneTwister as twister_type
 use Rattle.mersenne_twister.specs.Table as twister
-use Rattle.pcg.specs.declared.pcg32.Pcg32 as pcg32-type
-use Rattle.pcg.specs.declared.pcg64.Pcg64 as pcg64-type
+use Rattle.pcg.specs.declared.pcg32.Pcg32 as pcg32_type
+use Rattle.pcg.specs.declared.pcg64.Pcg64 as pcg64_type
 use Rattle.pcg.specs.Pcg32 as pcg32
 use Rattle.pcg.specs.Pcg64 as pcg64
-use Rattle.xoshiro.specs.declared.Xoshiro256PlusPlus as xoshiro-type
+use Rattle.xoshiro.specs.declared.Xoshiro256PlusPlus as xoshiro_type
 use Rattle.xoshiro.specs.Generator as xoshiro
 use Rattle.random.specs.declared.backend.Backend.TheVariants.{Xoshiro256PlusPlus, MersenneTwister, Pcg32, Pcg64}
 use Rattle.random.specs.declared.backend.Random.{Random}
@@ -19,27 +19,27 @@ use Rattle.filling.specs.FillLoop.{WholeWords, filling_part}
 -- ---- n bytes of room, the state before and after, and the buffer's content
 
 -- kind 0
-abbrev pub XoshiroWords : ℕ → xoshiro-type.Xoshiro256PlusPlus → xoshiro-type.Xoshiro256PlusPlus → List ℕ → Type 0
+abbrev pub XoshiroWords : ℕ → xoshiro_type.Xoshiro256PlusPlus → xoshiro_type.Xoshiro256PlusPlus → List ℕ → Type 0
 XoshiroWords n x next bytes = WholeWords xoshiro.output xoshiro.stepped 8 x n next bytes
 
 -- kind 1: the twister's word
-abbrev pub twister_word : twister-type.MersenneTwister → ℕ
+abbrev pub twister_word : twister_type.MersenneTwister → ℕ
 twister_word t = (twister.drawn t).word
 
 -- and the twister after it
-abbrev pub twister_next : twister-type.MersenneTwister → twister-type.MersenneTwister
+abbrev pub twister_next : twister_type.MersenneTwister → twister_type.MersenneTwister
 twister_next t = (twister.drawn t).next
 
 -- its words in the buffer
-abbrev pub TwisterWords : ℕ → twister-type.MersenneTwister → twister-type.MersenneTwister → List ℕ → Type 0
+abbrev pub TwisterWords : ℕ → twister_type.MersenneTwister → twister_type.MersenneTwister → List ℕ → Type 0
 TwisterWords n t next bytes = WholeWords twister_word twister_next 4 t n next bytes
 
 -- kind 2
-abbrev pub Pcg32Words : ℕ → pcg32-type.Pcg32 → pcg32-type.Pcg32 → List ℕ → Type 0
+abbrev pub Pcg32Words : ℕ → pcg32_type.Pcg32 → pcg32_type.Pcg32 → List ℕ → Type 0
 Pcg32Words n p next bytes = WholeWords pcg32.word_of pcg32.stepped 4 p n next bytes
 
 -- kind 3
-abbrev pub Pcg64Words : ℕ → pcg64-type.Pcg64 → pcg64-type.Pcg64 → List ℕ → Type 0
+abbrev pub Pcg64Words : ℕ → pcg64_type.Pcg64 → pcg64_type.Pcg64 → List ℕ → Type 0
 Pcg64Words n p next bytes = WholeWords pcg64.word_of pcg64.stepped 8 p n next bytes
 
 -- ---- of the generator
@@ -54,22 +54,22 @@ WholeOwnIn e mt n r mt' bytes = WholeOwn (joined_with e mt) n (joined_with r mt'
 
 module _ {n : ℕ} {bytes : List ℕ} where
   -- each kind's words are those of the generator that holds its state
-  pub xoshiro_own : (t : twister-type.MersenneTwister) {x next : xoshiro-type.Xoshiro256PlusPlus} → XoshiroWords n x next bytes
+  pub xoshiro_own : (t : twister_type.MersenneTwister) {x next : xoshiro_type.Xoshiro256PlusPlus} → XoshiroWords n x next bytes
       → WholeOwn (gen (Xoshiro256PlusPlus x) t) n (gen (Xoshiro256PlusPlus next) t) bytes
   unfolding own_word step
   xoshiro_own t h = filling_part own_word step (λ x. gen (Xoshiro256PlusPlus x) t) (λ x. refl) (λ x. refl) h
 
-  pub twister_own : {t next : twister-type.MersenneTwister} → TwisterWords n t next bytes
+  pub twister_own : {t next : twister_type.MersenneTwister} → TwisterWords n t next bytes
       → WholeOwn (gen MersenneTwister t) n (gen MersenneTwister next) bytes
   unfolding own_word step
   twister_own h = filling_part own_word step (gen MersenneTwister) (λ x. refl) (λ x. refl) h
 
-  pub pcg32_own : (t : twister-type.MersenneTwister) {p next : pcg32-type.Pcg32} → Pcg32Words n p next bytes
+  pub pcg32_own : (t : twister_type.MersenneTwister) {p next : pcg32_type.Pcg32} → Pcg32Words n p next bytes
       → WholeOwn (gen (Pcg32 p) t) n (gen (Pcg32 next) t) bytes
   unfolding own_word step
   pcg32_own t h = filling_part own_word step (λ x. gen (Pcg32 x) t) (λ x. refl) (λ x. refl) h
 
-  pub pcg64_own : (t : twister-type.MersenneTwister) {p next : pcg64-type.Pcg64} → Pcg64Words n p next bytes
+  pub pcg64_own : (t : twister_type.MersenneTwister) {p next : pcg64_type.Pcg64} → Pcg64Words n p next bytes
       → WholeOwn (gen (Pcg64 p) t) n (gen (Pcg64 next) t) bytes
   unfolding own_word step
   pcg64_own t h = filling_part own_word step (λ x. gen (Pcg64 x) t) (λ x. refl) (λ x. refl) h

@@ -2,7 +2,5 @@
 pub mod Units
 pub mod Coins
 pub mod Spreads
-pub mod Laws
 pub mod Promises
 pub mod PromisesLaws
-pub mod Values

@@ -7,12 +7,9 @@ pub mod UnitLaws
 pub mod OrderLaws
 pub mod FiniteLaws
 pub mod Chances
-pub mod ChanceLaws
 pub mod Intervals
-pub mod IntervalLaws
 pub mod SignLaws
 pub mod UnitsApart
-pub mod NoMinusZero
 pub mod Rounding
 pub mod ClosestLaws
 pub mod RoundingLaws

@@ -4,10 +4,10 @@ use Rattle.std.specs.Prelude.{ℕ, ◌%◌, ◌^◌, cond, List, [], ◌∷◌, 
 use Rattle.words.specs.Refusal as refusal
 use Rattle.pcg.specs.Pcg32 as pcg32
 use Rattle.pcg.specs.Pcg64 as pcg64
-use Rattle.pcg.specs.declared.pcg32.Pcg32 as pcg32-type
-use Rattle.pcg.specs.declared.pcg64.Pcg64 as pcg64-type
+use Rattle.pcg.specs.declared.pcg32.Pcg32 as pcg32_type
+use Rattle.pcg.specs.declared.pcg64.Pcg64 as pcg64_type
 use Rattle.xoshiro.specs.Generator as xoshiro
-use Rattle.xoshiro.specs.declared.Xoshiro256PlusPlus as xoshiro-type
+use Rattle.xoshiro.specs.declared.Xoshiro256PlusPlus as xoshiro_type
 use Rattle.random.specs.Lent.{joined_with, engine_with}
 use Rattle.random.specs.declared.backend.Backend.{Backend}
 use Rattle.random.specs.declared.backend.Backend.TheVariants.{Xoshiro256PlusPlus, MersenneTwister, Pcg32, Pcg64}
@@ -26,15 +26,15 @@ abbrev pub position_in : List ℕ → ℕ
 position_in s = get_or s 1 0 % 2 ^ 32
 
 -- the generator of kind 0 that has these small words,
-abbrev pub xoshiro_in : List ℕ → xoshiro-type.Xoshiro256PlusPlus
+abbrev pub xoshiro_in : List ℕ → xoshiro_type.Xoshiro256PlusPlus
 xoshiro_in s = xoshiro.parts (get_or s 2 0) (get_or s 3 0) (get_or s 4 0) (get_or s 5 0)
 
 -- that of kind 2,
-abbrev pub pcg32_in : List ℕ → pcg32-type.Pcg32
+abbrev pub pcg32_in : List ℕ → pcg32_type.Pcg32
 pcg32_in s = pcg32.parts (get_or s 2 0) (get_or s 3 0)
 
 -- and that of kind 3
-abbrev pub pcg64_in : List ℕ → pcg64-type.Pcg64
+abbrev pub pcg64_in : List ℕ → pcg64_type.Pcg64
 pcg64_in s = pcg64.parts (record { high = get_or s 2 0; low = get_or s 3 0 }) (record { high = get_or s 4 0; low = get_or s 5 0 })
 
 -- the kind with its words; of a kind above 3 that of a refused making, kind 0 with four zero words (document 01)

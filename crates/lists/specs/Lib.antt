@@ -8,7 +8,6 @@ pub mod Slicing
 -- What their promises fix: when a call is refused, where its answer lies, the same answer at every larger budget; one answer.
 pub mod CheckLaws
 pub mod CheckedDraws
-pub mod ChoosingOutcomes
 pub mod SlicingOutcomes
 pub mod OneListAnswer
 -- For the code: what it builds is the answer.
@@ -18,5 +17,5 @@ pub mod SlicingLaws
 -- The contracts by name, and that each leaves one answer.
 pub mod Promises
 pub mod PromisesLaws
+
 -- Where the place or the start of an answered call lies, of every generator.
-pub mod Values

@@ -8,7 +8,7 @@ use borrow.Author.Tests.{le-leb, lt-leb, eq-eqb, ne_eqb}
 use Rattle.mersenne_twister.specs.Table as twister
 use Rattle.pcg.specs.Pcg32 as pcg32
 use Rattle.pcg.specs.Pcg64 as pcg64
-use Rattle.xoshiro.specs.Seed as xoshiro-seed
+use Rattle.xoshiro.specs.Seed as xoshiro_seed
 use Rattle.random.specs.declared.backend.Random.{Random}
 use Rattle.words.specs.Refusal as refusal
 use Rattle.making.specs.declared.bytes.Made.{Made}
@@ -26,7 +26,7 @@ long_seed kind n = rw (ne_eqb kind 2 n)
 module _ (kind : ℕ) (s : List ℕ) where
   -- ---- the generator of a kind
 
-  pub kind_xoshiro : kind ≡ 0 → of_xoshiro (xoshiro-seed.seeded_bytes s) ≡ of_kind kind s
+  pub kind_xoshiro : kind ≡ 0 → of_xoshiro (xoshiro_seed.seeded_bytes s) ≡ of_kind kind s
   unfolding of_kind
   kind_xoshiro e = rw e
 

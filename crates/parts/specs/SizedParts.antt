@@ -1,6 +1,6 @@
 -- A position set, a twist and a split keep a generator's parts sized, parent and child.
 use Rattle.std.specs.Prelude.{ℕ}
-use Rattle.mersenne_twister.specs.declared.MersenneTwister as twister-type
+use Rattle.mersenne_twister.specs.declared.MersenneTwister as twister_type
 use Rattle.mersenne_twister.specs.SizedParts as twister
 use Rattle.mersenne_twister.specs.Table.{held}
 use Rattle.xoshiro.specs.SizedParts as xoshiro
@@ -16,7 +16,7 @@ use Rattle.parts.specs.Splitting.{split_by, split_of}
 pub sized_stored : (g : Random) (value : ℕ) → Sized g → Sized (stored_at g value)
 sized_stored g value h = record { small = h.small; beside = by g.backend g.twister h.beside }
   where
-    by : (b : Backend) (t : twister-type.MersenneTwister) → twister.Sized t → twister.Sized (held t.mt (stored_by b t.mti value))
+    by : (b : Backend) (t : twister_type.MersenneTwister) → twister.Sized t → twister.Sized (held t.mt (stored_by b t.mti value))
     by (Xoshiro256PlusPlus x) t l = l
     by MersenneTwister t l = twister.sized_stored t.mt value l.table
     by (Pcg32 p) t l = l
@@ -27,7 +27,7 @@ pub sized_twisted : (g : Random) → Sized g → Sized (twisted g)
 unfolding twisted
 sized_twisted g h = record { small = h.small; beside = by g.backend g.twister h.beside }
   where
-    by : (b : Backend) (t : twister-type.MersenneTwister) → twister.Sized t → twister.Sized (twisted_by b t)
+    by : (b : Backend) (t : twister_type.MersenneTwister) → twister.Sized t → twister.Sized (twisted_by b t)
     by (Xoshiro256PlusPlus x) t l = l
     by MersenneTwister t l = twister.sized_twisted t.mt l.table
     by (Pcg32 p) t l = l

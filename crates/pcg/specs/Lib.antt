@@ -2,7 +2,6 @@
 pub mod Lcg
 pub mod Pcg32
 pub mod Pcg64
-pub mod StreamLaws
 pub mod SizedParts
 pub mod Vectors
 pub mod Pcg32Promises

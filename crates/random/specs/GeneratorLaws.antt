@@ -2,8 +2,8 @@
 use Rattle.std.specs.Prelude.{◌≡◌, refl, ℕ, zero, suc, ◌+◌, ◌*◌, ◌/◌, ◌^◌, ◌<◌}
 use Rattle.std.proofs.Common.{sym, ◌∙◌, ap, add-zero, add-suc, add-one, arith}
 use Rattle.std.proofs.Math.Path.{fun_ext}
-use Rattle.mersenne_twister.specs.declared.MersenneTwister as twister-type
-use Rattle.pcg.specs.declared.pcg32.Pcg32 as pcg32-type
+use Rattle.mersenne_twister.specs.declared.MersenneTwister as twister_type
+use Rattle.pcg.specs.declared.pcg32.Pcg32 as pcg32_type
 use Rattle.random.specs.declared.backend.Backend.{Backend}
 use Rattle.random.specs.declared.backend.Backend.TheVariants.{Xoshiro256PlusPlus, MersenneTwister, Pcg32, Pcg64}
 use Rattle.random.specs.declared.backend.Random.{Random}
@@ -38,7 +38,7 @@ word_at n g = refl
 
 -- ---- the kind stays, and so does the width of its own word
 
-width_by : (b : Backend) (t : twister-type.MersenneTwister) → width_of (step_by b t).backend ≡ width_of b
+width_by : (b : Backend) (t : twister_type.MersenneTwister) → width_of (step_by b t).backend ≡ width_of b
 width_by (Xoshiro256PlusPlus x) t = refl
 width_by MersenneTwister t = refl
 width_by (Pcg32 p) t = refl
@@ -61,7 +61,7 @@ width_positive (Pcg64 p) = omega arith
 abbrev pub widened : Word32 → Word64
 widened d = record { word = d.word; next = d.next }
 
-own_by_lem : (b : Backend) (t : twister-type.MersenneTwister)
+own_by_lem : (b : Backend) (t : twister_type.MersenneTwister)
     → (width_of b ≡ 8 → u64_of (gen b t) ≡ own_of (gen b t)) × ((width_of b ≡ 8 → ⊥) → widened (rand_of (gen b t)) ≡ own_of (gen b t))
 unfolding rand_of u64_of own_of own_word word_of word64_of later step
 own_by_lem (Xoshiro256PlusPlus x) t = (λ e. refl, λ e. absurd (e refl))
@@ -78,7 +78,7 @@ own_narrow g = (own_by_lem g.backend g.twister).1
 -- ---- a word of 64 bits in terms of words of 32
 
 -- where the kind's own word has 64 bits, `rand` is its high half
-half_by : (b : Backend) (t : twister-type.MersenneTwister) → steps64 b ≡ 1 → word_by b t ≡ word64_by b t / 2 ^ 32
+half_by : (b : Backend) (t : twister_type.MersenneTwister) → steps64 b ≡ 1 → word_by b t ≡ word64_by b t / 2 ^ 32
 half_by (Xoshiro256PlusPlus x) t e = refl
 half_by MersenneTwister t e = absurd (omega arith)
 half_by (Pcg32 p) t e = absurd (omega arith)
@@ -89,12 +89,12 @@ unfolding word_of word64_of
 rand_is_high_half g = half_by g.backend g.twister
 
 -- the twister's 64-bit word is two words, the high one first; Pcg32's has the low one first
-pub twister_high_first : (t : twister-type.MersenneTwister)
+pub twister_high_first : (t : twister_type.MersenneTwister)
     → word64_of (gen MersenneTwister t) ≡ words_of (gen MersenneTwister t) 0 * 2 ^ 32 + words_of (gen MersenneTwister t) 1
 unfolding word64_of words_of word_of later step
 twister_high_first t = refl
 
-pub pcg32_low_first : (p : pcg32-type.Pcg32) (t : twister-type.MersenneTwister)
+pub pcg32_low_first : (p : pcg32_type.Pcg32) (t : twister_type.MersenneTwister)
     → word64_of (gen (Pcg32 p) t) ≡ words_of (gen (Pcg32 p) t) 1 * 2 ^ 32 + words_of (gen (Pcg32 p) t) 0
 unfolding word64_of words_of word_of later step
 pcg32_low_first p t = refl

@@ -2,15 +2,15 @@
 -- the other kinds are made of their state, stepped so many times. What the facade holds beside the kind's own parts plays no part.
 use Rattle.std.specs.Prelude.{List, ◌≡◌, refl, ℕ, zero, suc, ◌+◌, ◌/◌, ◌^◌, min, length}
 use Rattle.std.proofs.Common.{◌∙◌, ap}
-use Rattle.mersenne_twister.specs.declared.MersenneTwister as twister-type
+use Rattle.mersenne_twister.specs.declared.MersenneTwister as twister_type
 use Rattle.mersenne_twister.specs.SameWords as same
 use Rattle.mersenne_twister.specs.Sequence.{temper, Follows, StartsWith}
 use Rattle.mersenne_twister.specs.Table as twister
-use Rattle.pcg.specs.declared.pcg32.Pcg32 as pcg32-type
-use Rattle.pcg.specs.declared.pcg64.Pcg64 as pcg64-type
+use Rattle.pcg.specs.declared.pcg32.Pcg32 as pcg32_type
+use Rattle.pcg.specs.declared.pcg64.Pcg64 as pcg64_type
 use Rattle.pcg.specs.Pcg32 as pcg32
 use Rattle.pcg.specs.Pcg64 as pcg64
-use Rattle.xoshiro.specs.declared.Xoshiro256PlusPlus as xoshiro-type
+use Rattle.xoshiro.specs.declared.Xoshiro256PlusPlus as xoshiro_type
 use Rattle.xoshiro.specs.Generator as xoshiro
 use Rattle.random.specs.declared.backend.Backend.TheVariants.{Xoshiro256PlusPlus, MersenneTwister, Pcg32, Pcg64}
 use Rattle.random.specs.declared.backend.Random.{Random}
@@ -36,7 +36,7 @@ own_words_lem next word held same gives s n = ap word_of (own_steps next held sa
 
 -- ---- kind 0: the high halves of xoshiro256++'s words (Blackman and Vigna; document 01)
 
-pub xoshiro_words_lem : (x : xoshiro-type.Xoshiro256PlusPlus) (t : twister-type.MersenneTwister) (n : ℕ)
+pub xoshiro_words_lem : (x : xoshiro_type.Xoshiro256PlusPlus) (t : twister_type.MersenneTwister) (n : ℕ)
     → words_of (gen (Xoshiro256PlusPlus x) t) n ≡ xoshiro.output (times xoshiro.stepped n x) / 2 ^ 32
 unfolding step word_of
 xoshiro_words_lem x t n =
@@ -44,13 +44,13 @@ xoshiro_words_lem x t n =
 
 -- ---- kind 1: the sequence of Matsumoto and Nishimura, tempered
 
-twister_steps : (t : twister-type.MersenneTwister) (n : ℕ) → later n (gen MersenneTwister t) ≡ gen MersenneTwister (twister.after n t)
+twister_steps : (t : twister_type.MersenneTwister) (n : ℕ) → later n (gen MersenneTwister t) ≡ gen MersenneTwister (twister.after n t)
 unfolding later step twister.after
 twister_steps t zero = refl
 twister_steps t (suc n) = ap step (twister_steps t n)
 
 -- the facade's words are those that the table gives,
-pub twister_words_lem : (t : twister-type.MersenneTwister) (n : ℕ) → words_of (gen MersenneTwister t) n ≡ twister.word_of t n
+pub twister_words_lem : (t : twister_type.MersenneTwister) (n : ℕ) → words_of (gen MersenneTwister t) n ≡ twister.word_of t n
 unfolding words_of word_of twister.word_of
 twister_words_lem t n = ap word_of (twister_steps t n)
 
@@ -62,14 +62,14 @@ paper_words t p x long starts follows n = twister_words_lem (twister.held t p) n
 
 -- ---- kind 2: the words of PCG-XSH-RR-64/32 (O'Neill)
 
-pub pcg32_words_lem : (p : pcg32-type.Pcg32) (t : twister-type.MersenneTwister) (n : ℕ)
+pub pcg32_words_lem : (p : pcg32_type.Pcg32) (t : twister_type.MersenneTwister) (n : ℕ)
     → words_of (gen (Pcg32 p) t) n ≡ pcg32.word_of (times pcg32.stepped n p)
 unfolding step word_of
 pcg32_words_lem p t n = own_words_lem pcg32.stepped pcg32.word_of (λ s. gen (Pcg32 s) t) (λ s. refl) (λ s. refl) p n
 
 -- ---- kind 3: the high halves of the words of PCG-XSL-RR-128/64 (O'Neill; document 01)
 
-pub pcg64_words_lem : (p : pcg64-type.Pcg64) (t : twister-type.MersenneTwister) (n : ℕ)
+pub pcg64_words_lem : (p : pcg64_type.Pcg64) (t : twister_type.MersenneTwister) (n : ℕ)
     → words_of (gen (Pcg64 p) t) n ≡ pcg64.word_of (times pcg64.stepped n p) / 2 ^ 32
 unfolding step word_of
 pcg64_words_lem p t n = own_words_lem pcg64.stepped (λ s. pcg64.word_of s / 2 ^ 32) (λ s. gen (Pcg64 s) t) (λ s. refl) (λ s. refl) p n

@@ -2,7 +2,7 @@
 use Rattle.std.specs.Prelude.{◌≡◌, refl, Bool, true, List, ℕ, ◌+◌, ◌<◌, ◌≤◌, get_or}
 use Rattle.std.proofs.Common.{sym, ◌∙◌, ap, lt_of_not-le, arith, lt-ltb, le-ltb, ltb-true}
 use Rattle.std.proofs.Math.Decide.{dec_le}
-use Rattle.mersenne_twister.specs.declared.MersenneTwister as twister-type
+use Rattle.mersenne_twister.specs.declared.MersenneTwister as twister_type
 use Rattle.mersenne_twister.specs.declared.Drawn32.{Drawn32}
 use Rattle.mersenne_twister.specs.DrawLaws.{in_low, in_high}
 use Rattle.mersenne_twister.specs.Sequence.{temper}
@@ -18,7 +18,7 @@ use Rattle.random.specs.Ready.{ready_by, is_ready, surely_ready, made_ready, dra
 
 -- ---- which words are ready
 
-pub ready_below : (b : Backend) (t : twister-type.MersenneTwister) → t.mti < 624 → ready_by b t ≡ true
+pub ready_below : (b : Backend) (t : twister_type.MersenneTwister) → t.mti < 624 → ready_by b t ≡ true
 ready_below (Xoshiro256PlusPlus x) t h = refl
 ready_below MersenneTwister t h = lt-ltb t.mti 624 h
 ready_below (Pcg32 p) t h = refl
@@ -71,10 +71,10 @@ twister_made t m p q h e = rw (le-ltb p 624 h) (ap (gen MersenneTwister) e)
 -- ---- a generator made ready is ready for the word that comes next
 
 -- the twister, its table renewed, draws what it drew before
-renewed_draws : (t : twister-type.MersenneTwister) → 624 ≤ t.mti → drawn (twisted t) ≡ drawn t
+renewed_draws : (t : twister_type.MersenneTwister) → 624 ≤ t.mti → drawn (twisted t) ≡ drawn t
 renewed_draws t h = in_low (twisted t).mt 0 (omega arith) ∙ sym (in_high t.mt t.mti h)
 
-made_twister : (t : twister-type.MersenneTwister) → drawn_ready (made_ready (gen MersenneTwister t)) ≡ rand_of (gen MersenneTwister t)
+made_twister : (t : twister_type.MersenneTwister) → drawn_ready (made_ready (gen MersenneTwister t)) ≡ rand_of (gen MersenneTwister t)
 unfolding made_ready drawn_ready rand_of word_of step
 made_twister t =
     elim (dec_le 624 t.mti) [
@@ -82,7 +82,7 @@ made_twister t =
       | no h ↦ ready_stays (gen MersenneTwister t) (lt-ltb t.mti 624 (lt_of_not-le h))
     ]
 
-made_by : (b : Backend) (t : twister-type.MersenneTwister) → drawn_ready (made_ready (gen b t)) ≡ rand_of (gen b t)
+made_by : (b : Backend) (t : twister_type.MersenneTwister) → drawn_ready (made_ready (gen b t)) ≡ rand_of (gen b t)
 unfolding made_ready drawn_ready
 made_by (Xoshiro256PlusPlus x) t = refl
 made_by MersenneTwister t = made_twister t

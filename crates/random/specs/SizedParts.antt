@@ -1,9 +1,10 @@
 -- The parts of a generator are sized: its small words have 64 bits each, the entries of its table and its position 32. These are the
 -- numbers that the code's types can hold, and every step keeps them.
 use Rattle.std.specs.Prelude.{ℕ, zero, suc}
-use Rattle.mersenne_twister.specs.declared.MersenneTwister as twister-type
+use Rattle.mersenne_twister.specs.declared.MersenneTwister as twister_type
 use Rattle.mersenne_twister.specs.SizedParts as twister
 use Rattle.pcg.specs.SizedParts as pcg
+use Rattle.pcg.proofs.SizedParts as pcg_laws
 use Rattle.xoshiro.specs.SizedParts as xoshiro
 use Rattle.random.specs.declared.backend.Backend.{Backend}
 use Rattle.random.specs.declared.backend.Backend.TheVariants.{Xoshiro256PlusPlus, MersenneTwister, Pcg32, Pcg64}
@@ -24,11 +25,11 @@ pub record Sized (g : Random) : Type 0 where
   pub small : SizedSmall g.backend
   pub beside : twister.Sized g.twister
 
-sized_by : (b : Backend) (t : twister-type.MersenneTwister) → SizedSmall b → twister.Sized t → Sized (step_by b t)
+sized_by : (b : Backend) (t : twister_type.MersenneTwister) → SizedSmall b → twister.Sized t → Sized (step_by b t)
 sized_by (Xoshiro256PlusPlus x) t h l = record { small = xoshiro.sized_stepped x h; beside = l }
 sized_by MersenneTwister t h l = record { small = tt; beside = twister.sized_drawn t l }
-sized_by (Pcg32 p) t h l = record { small = pcg.sized_stepped32 p h; beside = l }
-sized_by (Pcg64 p) t h l = record { small = pcg.sized_stepped64 p h; beside = l }
+sized_by (Pcg32 p) t h l = record { small = pcg_laws.sized_stepped32 p h; beside = l }
+sized_by (Pcg64 p) t h l = record { small = pcg_laws.sized_stepped64 p h; beside = l }
 
 -- a step keeps them,
 pub sized_step : (g : Random) → Sized g → Sized (step g)

@@ -1,7 +1,7 @@
 -- The kinds that leave the twister's table as it came, at every word.
 use Rattle.std.specs.Prelude.{◌≡◌, refl, Bool, true, false, List, ℕ, zero, suc}
 use Rattle.std.proofs.Common.{◌∙◌, ap, true≢false}
-use Rattle.mersenne_twister.specs.declared.MersenneTwister as twister-type
+use Rattle.mersenne_twister.specs.declared.MersenneTwister as twister_type
 use Rattle.random.specs.declared.backend.Backend.{Backend}
 use Rattle.random.specs.declared.backend.Backend.TheVariants.{Xoshiro256PlusPlus, MersenneTwister, Pcg32, Pcg64}
 use Rattle.random.specs.declared.backend.Random.{Random}
@@ -17,7 +17,7 @@ on_table (Pcg32 p) = false
 on_table (Pcg64 p) = false
 
 -- the kinds that don't draw from the table leave it at every word
-kept_by : (b : Backend) (t : twister-type.MersenneTwister) → on_table b ≡ false
+kept_by : (b : Backend) (t : twister_type.MersenneTwister) → on_table b ≡ false
     → (on_table (step_by b t).backend ≡ false) × ((step_by b t).twister ≡ t)
 kept_by (Xoshiro256PlusPlus x) t h = (refl, refl)
 kept_by MersenneTwister t h = absurd (true≢false h)
@@ -35,4 +35,4 @@ kept_after (suc n) g h =
 
 pub others_keep : {h : Random} (n : ℕ) (e : Engine) (m : List ℕ) → on_table e.backend ≡ false → h ≡ later n (joined_with e m)
     → table_in h ≡ m
-others_keep n e m h q = ap table_in q ∙ ap (λ (t : twister-type.MersenneTwister). t.mt) (kept_after n (joined_with e m) h).1
+others_keep n e m h q = ap table_in q ∙ ap (λ (t : twister_type.MersenneTwister). t.mt) (kept_after n (joined_with e m) h).1

@@ -3,18 +3,18 @@
 use Rattle.std.specs.Prelude.{List, ◌≡◌, ℕ}
 use Rattle.std.proofs.Common.{ap}
 use Rattle.mersenne_twister.specs.Table as twister
-use Rattle.mersenne_twister.specs.declared.Drawn32 as twister-drawn
-use Rattle.mersenne_twister.specs.declared.MersenneTwister as twister-type
+use Rattle.mersenne_twister.specs.declared.Drawn32 as twister_drawn
+use Rattle.mersenne_twister.specs.declared.MersenneTwister as twister_type
 use Rattle.mersenne_twister.specs.declared.table.Step.{Step}
 use Rattle.pcg.specs.Pcg32 as pcg32
 use Rattle.pcg.specs.Pcg64 as pcg64
-use Rattle.pcg.specs.declared.pcg32.Drawn32 as pcg32-drawn
-use Rattle.pcg.specs.declared.pcg32.Pcg32 as pcg32-type
-use Rattle.pcg.specs.declared.pcg64.Drawn32 as pcg64-drawn
-use Rattle.pcg.specs.declared.pcg64.Pcg64 as pcg64-type
+use Rattle.pcg.specs.declared.pcg32.Drawn32 as pcg32_drawn
+use Rattle.pcg.specs.declared.pcg32.Pcg32 as pcg32_type
+use Rattle.pcg.specs.declared.pcg64.Drawn32 as pcg64_drawn
+use Rattle.pcg.specs.declared.pcg64.Pcg64 as pcg64_type
 use Rattle.xoshiro.specs.Generator as xoshiro
-use Rattle.xoshiro.specs.declared.Drawn32 as xoshiro-drawn
-use Rattle.xoshiro.specs.declared.Xoshiro256PlusPlus as xoshiro-type
+use Rattle.xoshiro.specs.declared.Drawn32 as xoshiro_drawn
+use Rattle.xoshiro.specs.declared.Xoshiro256PlusPlus as xoshiro_type
 use Rattle.random.specs.declared.backend.Backend.{Backend}
 use Rattle.random.specs.declared.backend.Backend.TheVariants.{Xoshiro256PlusPlus, MersenneTwister, Pcg32, Pcg64}
 use Rattle.random.specs.Generator.{gen, word_of, words_of, step}
@@ -25,7 +25,7 @@ use Rattle.rehearsal.specs.declared.turns.Draws.{Draws}
 
 -- What draws from a kind come to.
 abbrev pub ToldOf : Backend → Draws → Rehearsed → Type 0
-ToldOf kind d r = (t : twister-type.MersenneTwister) → r ≡ rehearsed_of (draws_of (words_of (gen kind t)) d)
+ToldOf kind d r = (t : twister_type.MersenneTwister) → r ≡ rehearsed_of (draws_of (words_of (gen kind t)) d)
 
 -- The same of the twister, by its table and position.
 abbrev pub TwisterTold : List ℕ → ℕ → Draws → Rehearsed → Type 0
@@ -33,35 +33,35 @@ TwisterTold m p d r = r ≡ rehearsed_of (draws_of (words_of (gen MersenneTwiste
 
 -- Where they stand after n words, which settled k draws, with the next one below b.
 abbrev pub LookingAt : Backend → Draws → ℕ → ℕ → ℕ → Backend → Type 0
-LookingAt kind d n k b cur = (t : twister-type.MersenneTwister) → Looking (gen kind t) d n k b (gen cur t)
+LookingAt kind d n k b cur = (t : twister_type.MersenneTwister) → Looking (gen kind t) d n k b (gen cur t)
 
 -- The next word of a kind.
 abbrev pub NextOf : Backend → ℕ → Backend → Type 0
-NextOf kind w next = (t : twister-type.MersenneTwister) → NextWord (gen kind t) w (gen next t)
+NextOf kind w next = (t : twister_type.MersenneTwister) → NextWord (gen kind t) w (gen next t)
 
 -- the word of Xoshiro256++
-pub xoshiro_next : {x : xoshiro-type.Xoshiro256PlusPlus} {r : xoshiro-drawn.Drawn32} → r ≡ xoshiro.drawn_high x
+pub xoshiro_next : {x : xoshiro_type.Xoshiro256PlusPlus} {r : xoshiro_drawn.Drawn32} → r ≡ xoshiro.drawn_high x
     → NextOf (Xoshiro256PlusPlus x) r.word (Xoshiro256PlusPlus r.next)
 unfolding word_of step
 xoshiro_next e t = record {
-  word = ap (λ (r : xoshiro-drawn.Drawn32). r.word) e;
-  moved = ap (λ (r : xoshiro-drawn.Drawn32). gen (Xoshiro256PlusPlus r.next) t) e;
+  word = ap (λ (r : xoshiro_drawn.Drawn32). r.word) e;
+  moved = ap (λ (r : xoshiro_drawn.Drawn32). gen (Xoshiro256PlusPlus r.next) t) e;
 }
 
 -- of Pcg32
-pub pcg32_next : {p : pcg32-type.Pcg32} {r : pcg32-drawn.Drawn32} → r ≡ pcg32.drawn p → NextOf (Pcg32 p) r.word (Pcg32 r.next)
+pub pcg32_next : {p : pcg32_type.Pcg32} {r : pcg32_drawn.Drawn32} → r ≡ pcg32.drawn p → NextOf (Pcg32 p) r.word (Pcg32 r.next)
 unfolding word_of step
 pcg32_next e t = record {
-  word = ap (λ (r : pcg32-drawn.Drawn32). r.word) e;
-  moved = ap (λ (r : pcg32-drawn.Drawn32). gen (Pcg32 r.next) t) e;
+  word = ap (λ (r : pcg32_drawn.Drawn32). r.word) e;
+  moved = ap (λ (r : pcg32_drawn.Drawn32). gen (Pcg32 r.next) t) e;
 }
 
 -- of Pcg64, the high half of its own
-pub pcg64_next : {p : pcg64-type.Pcg64} {r : pcg64-drawn.Drawn32} → r ≡ pcg64.drawn_high p → NextOf (Pcg64 p) r.word (Pcg64 r.next)
+pub pcg64_next : {p : pcg64_type.Pcg64} {r : pcg64_drawn.Drawn32} → r ≡ pcg64.drawn_high p → NextOf (Pcg64 p) r.word (Pcg64 r.next)
 unfolding word_of step
 pcg64_next e t = record {
-  word = ap (λ (r : pcg64-drawn.Drawn32). r.word) e;
-  moved = ap (λ (r : pcg64-drawn.Drawn32). gen (Pcg64 r.next) t) e;
+  word = ap (λ (r : pcg64_drawn.Drawn32). r.word) e;
+  moved = ap (λ (r : pcg64_drawn.Drawn32). gen (Pcg64 r.next) t) e;
 }
 
 -- and of the twister, whose table is lent
@@ -69,6 +69,6 @@ pub twister_next_lem : {m m' : List ℕ} {p : ℕ} {s : Step} → twister.steppe
     → NextWord (gen MersenneTwister (twister.held m p)) s.word (gen MersenneTwister (twister.held m' s.mti))
 unfolding word_of step
 twister_next_lem e = record {
-  word = ap (λ (r : twister-drawn.Drawn32). r.word) e;
-  moved = ap (λ (r : twister-drawn.Drawn32). gen MersenneTwister r.next) e;
+  word = ap (λ (r : twister_drawn.Drawn32). r.word) e;
+  moved = ap (λ (r : twister_drawn.Drawn32). gen MersenneTwister r.next) e;
 }

@@ -8,7 +8,7 @@ use Rattle.words.specs.Draw.{refused}
 use Rattle.words.specs.OutcomeLaws.{worked_answered, worked_refused, worked_same}
 use Rattle.signed.specs.Signed.{wrapped_sum, gap}
 use Rattle.signed.specs.SignedLaws.{sum_exact}
-use Rattle.signed.specs.GapLaws.{gap_fits}
+use Rattle.signed.proofs.GapLaws.{gap_fits}
 use Rattle.random.specs.declared.backend.Random.{Random}
 use Rattle.random.specs.declared.engine.Engine.{Engine}
 use Rattle.random.specs.Lent.{joined_with}

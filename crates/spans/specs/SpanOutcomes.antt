@@ -14,7 +14,7 @@ use Rattle.words.proofs.BelowItsBound.{first_below}
 use Rattle.words.specs.OneOutcome as one
 use Rattle.words.proofs.OneOutcome.{bounded_is, bounded_only}
 use Rattle.signed.specs.Signed.{gap}
-use Rattle.signed.specs.GapLaws.{gap_least, gap_most}
+use Rattle.signed.proofs.GapLaws.{gap_least, gap_most}
 use Rattle.words.specs.Outcomes.{worked_on, raised}
 use Rattle.words.specs.OutcomeLaws.{raised_answered, raised_refused}
 use Rattle.spans.specs.declared.counting.IntOutcome.{IntOutcome}

@@ -10,7 +10,7 @@ use Rattle.std.specs.Int.{w32}
 use Rattle.words.specs.declared.outcome.Outcome.{Outcome}
 use Rattle.words.specs.Draw.{Words, bounded_by}
 use Rattle.words.specs.Refusal as refusal
-use Rattle.signed.specs.GapLaws.{gap_fits}
+use Rattle.signed.proofs.GapLaws.{gap_fits}
 use Rattle.signed.specs.Signed.{wrapped_sum, gap}
 use Rattle.signed.specs.SignedLaws.{sum_exact}
 use Rattle.random.specs.Generator.{words_of}

@@ -13,7 +13,7 @@ use Rattle.random.specs.GeneratorLaws.{later_none}
 use Rattle.random.specs.Lent.{table_in}
 use Rattle.random.specs.declared.backend.Random.{Random}
 use Rattle.floats.specs.Chances as chances
-use Rattle.floats.specs.IntervalLaws.{refusal_of_uniform}
+use Rattle.floats.proofs.IntervalLaws.{refusal_of_uniform}
 use Rattle.floats.specs.Intervals.{refusal_of}
 use Rattle.floats.specs.declared.intervals.Interval.{Interval}
 use Rattle.floats.specs.declared.intervals.Uniform.{Uniform}
@@ -23,7 +23,7 @@ use Rattle.bounded.specs.Budgeted.{Budgeted, bounded_budgeted, range_budgeted, c
 use Rattle.spans.specs.IntAnswers.{int_answer_from}
 use Rattle.spans.specs.SpanBudgeted.{uint_budgeted, int_unused}
 use Rattle.lists.specs.Choosing as choosing
-use Rattle.lists.specs.ChoosingOutcomes.{place_budgeted}
+use Rattle.lists.proofs.ChoosingOutcomes.{place_budgeted}
 use Rattle.lists.specs.Slicing as slicing
 use Rattle.lists.specs.SlicingOutcomes.{slice_budgeted}
 use Rattle.shuffle.specs.OneShuffle.{refused_list}
@@ -31,7 +31,7 @@ use Rattle.shuffle.specs.Shuffle.{shuffle_by, shuffled}
 use Rattle.shuffle.specs.ShuffleBudgeted.{shuffle_budgeted}
 use Rattle.filling.specs.Fill.{filled_bytes, fill_words}
 use Rattle.float_draws.specs.Coins.{flip_from}
-use Rattle.float_draws.specs.Laws.{flip_keeps, spread_keeps}
+use Rattle.float_draws.proofs.Laws.{flip_keeps, spread_keeps}
 use Rattle.float_draws.specs.Spreads.{spread_from}
 use Rattle.making.specs.Make.{made_bytes}
 use Rattle.making.specs.declared.bytes.Made.{Made}

@@ -7,7 +7,7 @@ use Rattle.std.proofs.Math.Path.{refl}
 use Rattle.words.specs.Refusal as refusal
 use Rattle.signed.specs.Signed.{signed_of}
 use Rattle.floats.specs.Chances as chances
-use Rattle.floats.specs.IntervalLaws.{uniform_taken, uniform_refused}
+use Rattle.floats.proofs.IntervalLaws.{uniform_taken, uniform_refused}
 use Rattle.floats.specs.Intervals.{interval_refusal, uniform_of}
 use Rattle.floats.specs.Units as units
 use Rattle.floats.specs.declared.intervals.Interval.{Interval}

@@ -1,8 +1,8 @@
 -- `span_of` meets its contract: the difference in 64 bits is the gap where it is not below zero.
 use mathlib.Core.Path.{ap}
 use lib.IntN.{nat_abs}
-use Rattle.signed.specs.GapLaws.{gap_small}
-use Rattle.signed.specs.Spanning.{span_fits, span_below, span_above}
+use Rattle.signed.proofs.GapLaws.{gap_small}
+use Rattle.signed.proofs.Spanning.{span_fits, span_below, span_above}
 use Rattle.signed.specs.Widening.{widen_fits}
 use Rattle.signed.proofs.span_of.Goals as goal
 

@@ -1,6 +1,6 @@
 -- `bool_in` meets its contract: p is asked first; taken, the coin of the drawn word, and refused, nothing drawn.
 use mathlib.Core.Path.{◌∙◌, sym}
-use Rattle.float_draws.specs.Laws.{flip_taken, flip_refused}
+use Rattle.float_draws.proofs.Laws.{flip_taken, flip_refused}
 use Rattle.float_draws.proofs.coins.bool_in.Goals as goal
 
 pub returns-then-is_chance : goal.returns-then-is_chance

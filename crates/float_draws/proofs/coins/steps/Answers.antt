@@ -1,6 +1,6 @@
 -- `steps` meets its contract: a 64-bit word is one word of a kind whose own have 8 bytes, and two of the others.
 use mathlib.Core.Path.{◌∙◌, sym}
-use Rattle.float_draws.specs.Laws.{steps_wide, steps_narrow}
+use Rattle.float_draws.proofs.Laws.{steps_wide, steps_narrow}
 use Rattle.float_draws.proofs.coins.steps.Goals as goal
 
 pub returns-then-width-eq8 : goal.returns-then-width-eq8

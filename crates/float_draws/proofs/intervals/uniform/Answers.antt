@@ -5,7 +5,7 @@ use lib.Ieee.{fin}
 use mathlib.Core.Bool.{true}
 use mathlib.Core.Path.{◌≡◌}
 use Rattle.floats.specs.declared.intervals.Uniform.TheVariants.{Number}
-use Rattle.float_draws.specs.Laws.{uniform_never_minus_zero}
+use Rattle.float_draws.proofs.Laws.{uniform_never_minus_zero}
 use Rattle.float_draws.specs.Promises.{UniformPromise}
 use Rattle.float_draws.specs.declared.intervals.Spread.{Spread}
 use Rattle.float_draws.proofs.intervals.uniform.Goals as goal

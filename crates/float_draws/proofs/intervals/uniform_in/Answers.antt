@@ -1,6 +1,6 @@
 -- `uniform_in` meets its contract: the interval is asked first; taken, the number of the drawn word, and refused, nothing drawn.
 use mathlib.Core.Path.{◌∙◌, sym}
-use Rattle.float_draws.specs.Laws.{spread_taken, spread_refused}
+use Rattle.float_draws.proofs.Laws.{spread_taken, spread_refused}
 use Rattle.float_draws.proofs.intervals.uniform_in.Goals as goal
 
 pub returns-then-refused-eq-ANSWERED : goal.returns-then-refused-eq-ANSWERED

@@ -1,5 +1,5 @@
 -- `float_in` meets its contract: the float of the drawn word, beside the generator after it.
-use Rattle.float_draws.specs.Laws.{float_in}
+use Rattle.float_draws.proofs.Laws.{float_in}
 use Rattle.float_draws.proofs.units.float_in.Goals as goal
 
 pub returns : goal.returns

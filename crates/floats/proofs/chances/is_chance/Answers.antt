@@ -1,6 +1,6 @@
 -- `is_chance` meets its contract: the two comparisons say what the whole numbers do.
 use lib.Ieee.{of_bits}
-use Rattle.floats.specs.ChanceLaws.{is_chance_tests}
+use Rattle.floats.proofs.ChanceLaws.{is_chance_tests}
 use Rattle.floats.proofs.chances.is_chance.Goals as goal
 
 pub returns-then-p : goal.returns-then-p

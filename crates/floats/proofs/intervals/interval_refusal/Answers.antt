@@ -1,6 +1,6 @@
 -- `interval_refusal` meets its contract: each way out is the refusal of the tests that led there.
 use Rattle.std.proofs.Common.{sym, ◌∙◌}
-use Rattle.floats.specs.IntervalLaws.{ends_refused, order_refused, width_refused, accepted}
+use Rattle.floats.proofs.IntervalLaws.{ends_refused, order_refused, width_refused, accepted}
 use Rattle.floats.proofs.intervals.interval_refusal.Goals as goal
 
 pub returns-then-not-ends_are_finite : goal.returns-then-not-ends_are_finite

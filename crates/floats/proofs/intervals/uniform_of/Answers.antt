@@ -1,6 +1,6 @@
 -- `uniform_of` meets its contract: the number where the refusal is 0, and otherwise the refusal.
 use mathlib.Core.Path.{sym, ◌∙◌}
-use Rattle.floats.specs.IntervalLaws.{answered_refused}
+use Rattle.floats.proofs.IntervalLaws.{answered_refused}
 use Rattle.floats.proofs.intervals.uniform_of.Goals as goal
 
 pub returns-then-refused-eq0 : goal.returns-then-refused-eq0

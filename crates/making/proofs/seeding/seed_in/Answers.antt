@@ -2,7 +2,7 @@
 use mathlib.Core.Path.{◌≡◌, ap}
 use native.Mathlib.Omega.{arith}
 use Prim.Native.Nat.{ℕ, ◌+◌, ◌*◌, ◌^◌}
-use Rattle.mersenne_twister.specs.declared.MersenneTwister as twister-type
+use Rattle.mersenne_twister.specs.declared.MersenneTwister as twister_type
 use Rattle.pcg.specs.Pcg64 as pcg64
 use Rattle.random.specs.Generator.{gen}
 use Rattle.making.specs.Seeding.{seeded_to}
@@ -10,7 +10,7 @@ use Rattle.random.specs.declared.backend.Backend.TheVariants.{MersenneTwister, P
 use Rattle.making.proofs.seeding.seed_in.Goals as goal
 
 -- a high word of 0 adds nothing to the seed
-widened : (t : twister-type.MersenneTwister) (n : ℕ)
+widened : (t : twister_type.MersenneTwister) (n : ℕ)
     → gen (Pcg64 (pcg64.seeded (0 * 2 ^ 64 + n) pcg64.default_stream)) t ≡ gen (Pcg64 (pcg64.seeded n pcg64.default_stream)) t
 widened t n = ap (λ (m : ℕ). gen (Pcg64 (pcg64.seeded m pcg64.default_stream)) t) (omega arith)
 
@@ -22,7 +22,7 @@ pub returns-in-MersenneTwister : goal.returns-in-MersenneTwister
 unfolding seeded_to
 returns-in-MersenneTwister c =
     rw (c.in-MersenneTwister.is, c.engine_with-in-MersenneTwister.ensures)
-    (ap (λ (t : twister-type.MersenneTwister). gen MersenneTwister t) c.seed_in-at.ensures)
+    (ap (λ (t : twister_type.MersenneTwister). gen MersenneTwister t) c.seed_in-at.ensures)
 
 pub returns-in-Pcg32 : goal.returns-in-Pcg32
 unfolding seeded_to

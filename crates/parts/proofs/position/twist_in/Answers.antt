@@ -1,6 +1,6 @@
 -- `twist_in` meets its contract, kind by kind.
 use mathlib.Core.Path.{ap}
-use Rattle.mersenne_twister.specs.declared.MersenneTwister as twister-type
+use Rattle.mersenne_twister.specs.declared.MersenneTwister as twister_type
 use Rattle.random.specs.Generator.{gen}
 use Rattle.parts.specs.Position.{twisted}
 use Rattle.random.specs.declared.backend.Backend.TheVariants.{MersenneTwister}
@@ -14,7 +14,7 @@ pub returns-in-MersenneTwister : goal.returns-in-MersenneTwister
 unfolding twisted
 returns-in-MersenneTwister c =
     rw (c.in-MersenneTwister.is, c.engine_with.ensures)
-    (ap (λ (t : twister-type.MersenneTwister). gen MersenneTwister t) c.twist_in-at.ensures)
+    (ap (λ (t : twister_type.MersenneTwister). gen MersenneTwister t) c.twist_in-at.ensures)
 
 pub returns-in-Pcg32 : goal.returns-in-Pcg32
 unfolding twisted

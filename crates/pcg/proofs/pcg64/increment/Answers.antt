@@ -3,7 +3,7 @@ use Rattle.std.proofs.Common.{ap, ◌∙◌}
 use native.Mathlib.Nat.{mod-add-mod}
 use Rattle.wrapping.specs.Wide.{wide}
 use Rattle.wrapping.specs.WideLaws.{value_wide}
-use Rattle.pcg.specs.StreamLaws.{increment_sum}
+use Rattle.pcg.proofs.StreamLaws.{increment_sum}
 use Rattle.pcg.proofs.pcg64.increment.Goals as goal
 
 pub returns : goal.returns

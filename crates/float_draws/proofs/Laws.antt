@@ -1,21 +1,20 @@
 -- The laws of the float draws: what the code over a lent table and by value builds, and what a refusal leaves.
-use Rattle.std.specs.Prelude.{Bool, true, false, List, ◌≡◌, refl, ℕ, T, ℤ, Float}
+use Rattle.std.specs.Prelude.{true, false, List, ◌≡◌, refl, ℕ, T, ℤ, Float}
 use Rattle.std.proofs.Common.{sym, ◌∙◌, arith}
 use Rattle.std.proofs.Math.Path.{ap}
 use borrow.Author.Tests.{eq-eqb, ne_eqb}
 use Rattle.std.specs.Float.{fin, binary64}
 use Rattle.std.specs.Float.Ieee.{fits}
-use Rattle.floats.specs.Chances.{is_chance, chance_refusal, coin_of}
-use Rattle.floats.specs.IntervalLaws.{uniform_refused}
-use Rattle.floats.specs.NoMinusZero.{answer_never_minus_zero}
+use Rattle.floats.specs.Chances.{is_chance, coin_of}
+use Rattle.floats.proofs.IntervalLaws.{uniform_refused}
+use Rattle.floats.proofs.NoMinusZero.{answer_never_minus_zero}
 use Rattle.floats.specs.Intervals.{interval_refusal, uniform_of}
 use Rattle.floats.specs.Units.{float_of, double_of}
 use Rattle.floats.specs.declared.intervals.Interval.{Interval}
-use Rattle.floats.specs.declared.intervals.Uniform.{Uniform}
 use Rattle.floats.specs.declared.intervals.Uniform.TheVariants.{Number, Refused}
 use Rattle.words.specs.Refusal as refusal
 use Rattle.random.specs.declared.backend.Random.{Random}
-use Rattle.random.specs.Generator.{step, word_of, word64_of, steps64, width_of, later, rand_of, u64_of}
+use Rattle.random.specs.Generator.{word64_of, steps64, width_of, rand_of, u64_of}
 use Rattle.random.specs.declared.by_value.Word32.{Word32}
 use Rattle.random.specs.declared.by_value.Word64.{Word64}
 use Rattle.random.specs.GeneratorLaws.{later_none}

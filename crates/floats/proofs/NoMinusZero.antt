@@ -8,7 +8,7 @@ use Rattle.std.specs.Float.Ieee.{low, up, down, round, sum, add, mul, fits, of_b
 use Rattle.std.specs.Float.Ieee.Fits.{down_pos, mul-fits}
 use Rattle.std.specs.Float.Ieee.Scale.{finite}
 use Rattle.floats.specs.Intervals.{width, interval_refusal, number_in, answered, uniform_of}
-use Rattle.floats.specs.IntervalLaws.{taken_iff}
+use Rattle.floats.proofs.IntervalLaws.{taken_iff}
 use Rattle.floats.specs.Units.{double_of}
 use Rattle.floats.specs.declared.intervals.Interval.{Interval}
 use Rattle.floats.specs.declared.intervals.Uniform.{Uniform}

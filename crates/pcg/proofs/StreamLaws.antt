@@ -1,7 +1,7 @@
 -- What follows of streams, at every width: the increment in use is odd and fits its width, and streams that differ in their top bit
 -- alone, or as byte seeds in their low bit alone, give one increment.
-use Rattle.std.specs.Prelude.{◌≡◌, ℕ, suc, ◌+◌, ◌*◌, ◌/◌, ◌%◌, ◌^◌, ◌<◌, refl}
-use Rattle.std.proofs.Common.{sym, ap, ◌∙◌, arith, div-add-mod', mod-lt, pow-suc, pow_pos}
+use Rattle.std.specs.Prelude.{◌≡◌, ℕ, suc, ◌+◌, ◌*◌, ◌/◌, ◌%◌, ◌^◌, ◌<◌}
+use Rattle.std.proofs.Common.{arith, div-add-mod', mod-lt, pow-suc, pow_pos}
 use Rattle.std.proofs.Math.Nat.{add-mod_right}
 use Rattle.std.proofs.Math.Arith.{digits_mod}
 use Rattle.pcg.specs.Lcg.{increment, low_bit_set}

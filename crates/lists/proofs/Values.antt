@@ -11,7 +11,7 @@ use Rattle.lists.specs.declared.windows.SliceStart.{SliceStart}
 use Rattle.lists.specs.Choosing.{choice_from}
 use Rattle.lists.specs.Slicing.{start_of, start_from}
 use Rattle.lists.specs.Promises.{ChoosePromise, RandSlicePromise}
-use Rattle.lists.specs.ChoosingOutcomes.{choose_place_below, choose_value_there}
+use Rattle.lists.proofs.ChoosingOutcomes.{choose_place_below, choose_value_there}
 use Rattle.lists.specs.SlicingOutcomes.{start_leaves_room}
 
 -- `choose`: a place of the list, and the entry there (document 01, "Draws")

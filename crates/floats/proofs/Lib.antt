@@ -1,0 +1,4 @@
+pub mod ChanceLaws
+pub mod IntervalLaws
+pub mod NoMinusZero
+pub mod Bench

@@ -1,0 +1,2 @@
+pub mod ChoosingOutcomes
+pub mod Values
