@@ -6,4 +6,3 @@ pub mod Seeding
 pub mod Promises
 pub mod PromisesLaws
 pub mod SeedingLaws
-pub mod SizedParts

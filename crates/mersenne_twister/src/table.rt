@@ -102,6 +102,7 @@ pub fn twist_in(mt: &mut [u32; 624]) -> u32
 }
 
 // The next word. At position 624 or above the table is twisted first.
+#[tactic(auto, using(crate::proofs::DrawFacts::draw_twisted, crate::specs::DrawLaws::in_low))]
 pub fn rand_in(mt: &mut [u32; 624], mti: u32) -> Step
     ensures { RandInPromise mt.old mti result mt.new }
 {

@@ -8,7 +8,7 @@ use Rattle.random.specs.SizedParts.{SizedSmall, Sized}
 use Rattle.random.specs.declared.backend.Backend.{Backend}
 use Rattle.random.specs.declared.backend.Backend.TheVariants.{Xoshiro256PlusPlus, MersenneTwister, Pcg32, Pcg64}
 use Rattle.random.specs.declared.backend.Random.{Random}
-use Rattle.making.specs.SizedParts.{zero_generator_lem}
+use Rattle.making.proofs.SizedParts.{zero_generator_lem}
 use Rattle.parts.specs.Position.{stored_by, stored_at, twisted_by, twisted}
 use Rattle.parts.specs.Splitting.{split_by, split_of}
 
