@@ -13,14 +13,15 @@ mod shares;
 mod shuffles;
 
 use report::Tally;
+use std::io;
 
-fn main() {
+fn main(rt: HostRuntime) -> io::Result<()> {
     let start = Tally { right: 0, of: 0 };
-    let drawn = draws::run(start);
-    let counted = shares::run(drawn);
-    let shuffled = shuffles::run(counted);
-    let floated = float_rows::run(shuffled);
-    let filled = bytes::run(floated);
-    let all = lengths::run(filled);
-    report::total(all);
+    let drawn = draws::run(&rt, start)?;
+    let counted = shares::run(&rt, drawn)?;
+    let shuffled = shuffles::run(&rt, counted)?;
+    let floated = float_rows::run(&rt, shuffled)?;
+    let filled = bytes::run(&rt, floated)?;
+    let all = lengths::run(&rt, filled)?;
+    report::total(&rt, all)
 }

@@ -1,5 +1,6 @@
 // How an example is told: what it is, the answer, and whether that is what the document says.
 use bounded::EngineAnswer;
+use std::io;
 use telling::{number, small, text};
 
 // Examples that are as in the document, of so many.
@@ -26,43 +27,48 @@ pub(crate) fn of_answer(a: EngineAnswer) -> Told {
 }
 
 // The signed number that stands so far above the least one.
-pub(crate) fn signed(above_least: u32) {
+pub(crate) fn signed(rt: &impl Print, above_least: u32) -> io::Result<()> {
     if above_least < 0x8000_0000 {
-        text(b"-");
-        small(0x8000_0000 - above_least);
+        text(rt, b"-")?;
+        small(rt, 0x8000_0000 - above_least)
     } else {
-        small(above_least - 0x8000_0000);
+        small(rt, above_least - 0x8000_0000)
     }
 }
 
 // The end of an example's line, and one more of its kind.
-pub(crate) fn judged(t: Tally, right: bool) -> Tally {
+pub(crate) fn judged(rt: &impl Print, t: Tally, right: bool) -> io::Result<Tally> {
     let of = std::num::wrapping_add_u64(t.of, 1);
     if right {
-        text(b": as in the document\n");
-        return Tally {
+        text(rt, b": as in the document\n")?;
+        return Ok(Tally {
             right: std::num::wrapping_add_u64(t.right, 1),
             of,
-        };
+        });
     }
-    text(b": NOT as in the document\n");
-    Tally { right: t.right, of }
+    text(rt, b": NOT as in the document\n")?;
+    Ok(Tally { right: t.right, of })
 }
 
 // Right where both are.
-pub(crate) fn judged_with(t: Tally, first: bool, second: bool) -> Tally {
+pub(crate) fn judged_with(
+    rt: &impl Print,
+    t: Tally,
+    first: bool,
+    second: bool,
+) -> io::Result<Tally> {
     if first {
-        return judged(t, second);
+        return judged(rt, t, second);
     }
-    judged(t, false)
+    judged(rt, t, false)
 }
 
 // The refusal and the words used.
-fn outcome(a: Told) {
-    text(b", refusal ");
-    small(a.refusal);
-    text(b", words used ");
-    small(a.used);
+fn outcome(rt: &impl Print, a: Told) -> io::Result<()> {
+    text(rt, b", refusal ")?;
+    small(rt, a.refusal)?;
+    text(rt, b", words used ")?;
+    small(rt, a.used)
 }
 
 // Whether two draws tell the same.
@@ -77,22 +83,22 @@ pub(crate) fn same(a: Told, b: Told) -> bool {
 }
 
 // A draw's answer, after what was drawn.
-pub(crate) fn draw(a: Told) {
-    text(b": value ");
-    small(a.value);
-    outcome(a);
+pub(crate) fn draw(rt: &impl Print, a: Told) -> io::Result<()> {
+    text(rt, b": value ")?;
+    small(rt, a.value)?;
+    outcome(rt, a)
 }
 
 // The same of a signed value, told as its distance from the least one.
-pub(crate) fn signed_draw(a: Told) {
-    text(b": value ");
-    signed(a.value);
-    outcome(a);
+pub(crate) fn signed_draw(rt: &impl Print, a: Told) -> io::Result<()> {
+    text(rt, b": value ")?;
+    signed(rt, a.value)?;
+    outcome(rt, a)
 }
 
-pub(crate) fn total(t: Tally) {
-    number(t.right);
-    text(b" of ");
-    number(t.of);
-    text(b" as in the document\n");
+pub(crate) fn total(rt: &impl Print, t: Tally) -> io::Result<()> {
+    number(rt, t.right)?;
+    text(rt, b" of ")?;
+    number(rt, t.of)?;
+    text(rt, b" as in the document\n")
 }

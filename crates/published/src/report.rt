@@ -1,15 +1,11 @@
 // How a comparison is told: what was compared, and how many of the words agree.
 use crate::source;
 use crate::source::Source;
-use libc::STDOUT_FILENO;
+use std::io;
 
-pub(crate) fn tell(what: &[u8], right: u64, of: usize) {
-    io::write_all(STDOUT_FILENO, what);
-    io::write_all(STDOUT_FILENO, b": ");
-    io::print_decimal(STDOUT_FILENO, right);
-    io::write_all(STDOUT_FILENO, b" of ");
-    io::print_decimal(STDOUT_FILENO, of as u64);
-    io::write_all(STDOUT_FILENO, b" words agree\n");
+pub(crate) fn tell(rt: &impl Print, what: &[u8], right: u64, of: usize) -> io::Result<()> {
+    rt.write_all(what)?;
+    println!(rt; ": {right} of {of} words agree")
 }
 
 // One more where the two words are equal.
@@ -35,6 +31,6 @@ pub(crate) fn agreeing(s: Source, theirs: &[u64]) -> u64 {
     right
 }
 
-pub(crate) fn compare(what: &[u8], s: Source, theirs: &[u64]) {
-    tell(what, agreeing(s, theirs), theirs.len());
+pub(crate) fn compare(rt: &impl Print, what: &[u8], s: Source, theirs: &[u64]) -> io::Result<()> {
+    tell(rt, what, agreeing(s, theirs), theirs.len())
 }

@@ -2,6 +2,8 @@
 // stands in the table on standard input (the file `stdin` of this crate), a line for each row.
 #![tactic(auto)]
 
+ghost use Rattle.std.specs.Prelude.{◌≤◌, length, IfOk};
+
 mod calls;
 mod generators;
 mod listed;
@@ -13,8 +15,29 @@ mod told;
 mod trying;
 mod windows;
 
-fn main() {
-    let mut text = io::large_buffer();
-    let n = io::read_full(libc::STDIN_FILENO, &mut text);
-    trying::try_table(&text[..n]);
+use std::io;
+use std::io::Read;
+
+// The bytes of the table that are read, at most.
+const ROOM: usize = 65536;
+
+// Reads until the buffer is full or the input ends, and answers how many bytes stand at the buffer's start.
+fn read_full(input: &mut impl Read, buffer: &mut [u8]) -> io::Result<usize>
+    ensures { IfOk result (λ n. n ≤ length buffer.new) }
+{
+    let mut done: usize = 0;
+    while done < buffer.len() {
+        let n = input.read(&mut buffer[done..])?;
+        if n == 0 {
+            break;
+        }
+        done += n;
+    }
+    Ok(done)
+}
+
+fn main(rt: HostRuntime) -> io::Result<()> {
+    let mut text = [0u8; ROOM];
+    let n = read_full(&mut rt.reader(), &mut text)?;
+    trying::try_table(&rt, &text[..n])
 }

@@ -1,5 +1,5 @@
 // How the cases are counted and printed: a line for each heading of the table, and a line for each case that is not as ordered.
-use libc::STDOUT_FILENO;
+use std::io;
 
 #[derive(Clone, Copy)]
 pub(crate) struct Tally {
@@ -18,47 +18,55 @@ pub(crate) fn added(a: Tally, b: Tally) -> Tally {
     }
 }
 
-fn write(text: &[u8], n: u64) {
-    io::write_all(STDOUT_FILENO, text);
-    io::print_decimal(STDOUT_FILENO, n);
+fn write(rt: &impl Print, text: &[u8], n: u64) -> io::Result<()> {
+    rt.write_all(text)?;
+    rt.print(n)
 }
 
 // A case that is not as ordered: the row's line in the table; its try, which is 8 times the generator's number, and on it first by value,
 // then over a lent table, four budgets; and the budget, or for `make` the bytes of the seed.
-fn write_failed(line: u64, number: u32, budget: u64) {
-    write(b"NOT AS ORDERED    line, try, budget: ", line);
-    write(b" ", number as u64);
-    write(b" ", budget);
-    io::write_all(STDOUT_FILENO, b"\n");
+fn write_failed(rt: &impl Print, line: u64, number: u32, budget: u64) -> io::Result<()> {
+    write(rt, b"NOT AS ORDERED    line, try, budget: ", line)?;
+    write(rt, b" ", number as u64)?;
+    write(rt, b" ", budget)?;
+    rt.write_all(b"\n")
 }
 
 // One case more.
-pub(crate) fn counted(t: Tally, right: bool, line: u64, number: u32, budget: u64) -> Tally {
+pub(crate) fn counted(
+    rt: &impl Print,
+    t: Tally,
+    right: bool,
+    line: u64,
+    number: u32,
+    budget: u64,
+) -> io::Result<Tally> {
     if right {
-        return added(t, Tally { right: 1, of: 1 });
+        return Ok(added(t, Tally { right: 1, of: 1 }));
     }
-    write_failed(line, number, budget);
-    added(t, Tally { right: 0, of: 1 })
+    write_failed(rt, line, number, budget)?;
+    Ok(added(t, Tally { right: 0, of: 1 }))
 }
 
 // The one case of a row.
-pub(crate) fn one(right: bool, line: u64) -> Tally {
-    counted(none(), right, line, 0, 0)
+pub(crate) fn one(rt: &impl Print, right: bool, line: u64) -> io::Result<Tally> {
+    counted(rt, none(), right, line, 0, 0)
 }
 
 // The heading at a place of the table: 16 letters on the refusal, and after two spaces 16 on the call.
-pub(crate) fn write_heading(text: &[u8], from: usize) {
+pub(crate) fn write_heading(rt: &impl Print, text: &[u8], from: usize) -> io::Result<()> {
     if from <= text.len() {
         if 34 <= text.len() - from {
             let end = from + 34;
-            io::write_all(STDOUT_FILENO, &text[from..end]);
+            return rt.write_all(&text[from..end]);
         }
     }
+    Ok(())
 }
 
 // How many are as ordered.
-pub(crate) fn write_tally(t: Tally) {
-    io::print_decimal(STDOUT_FILENO, t.right);
-    write(b" of ", t.of);
-    io::write_all(STDOUT_FILENO, b" as ordered\n");
+pub(crate) fn write_tally(rt: &impl Print, t: Tally) -> io::Result<()> {
+    rt.print(t.right)?;
+    write(rt, b" of ", t.of)?;
+    rt.write_all(b" as ordered\n")
 }

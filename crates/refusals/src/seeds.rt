@@ -6,6 +6,7 @@ use crate::{generators, report};
 use mersenne_twister::MersenneTwister;
 use pcg::{Pcg32, Pcg64};
 use random::{Backend, Random};
+use std::io;
 use xoshiro::Xoshiro256PlusPlus;
 
 // The most bytes of a seed.
@@ -70,14 +71,15 @@ fn is_as_ordered(row: Row, seed: &[u8]) -> bool {
 }
 
 // A row, at every length. One without a length is refused at all of them.
-pub(crate) fn try_row(row: Row) -> Tally {
+pub(crate) fn try_row(rt: &impl Print, row: Row) -> io::Result<Tally> {
     let mut seed = [0u8; LONGEST];
     fill(&mut seed, row.second.whole);
     let mut t = report::none();
     let mut n: usize = 0;
     while n <= LONGEST {
-        t = report::counted(t, is_as_ordered(row, &seed[0..n]), row.line, 0, n as u64);
+        let right = is_as_ordered(row, &seed[0..n]);
+        t = report::counted(rt, t, right, row.line, 0, n as u64)?;
         n += 1;
     }
-    t
+    Ok(t)
 }

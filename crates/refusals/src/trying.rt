@@ -6,6 +6,7 @@ use crate::report::Tally;
 use crate::table::Row;
 use crate::told::{Told, same_told};
 use crate::{calls, generators, listed, report, seeds, table, windows};
+use std::io;
 
 // Words that are looked through for a good one, more than two tables of the twister; for a long list as many more as it may have entries.
 const PATIENCE: u32 = 1300;
@@ -84,7 +85,7 @@ fn try_at(which: u32, number: u32) -> u32 {
 }
 
 // The tries of a row on a generator.
-fn try_on(t: Tally, call: usize, row: Row, which: u32) -> Tally {
+fn try_on(rt: &impl Print, t: Tally, call: usize, row: Row, which: u32) -> io::Result<Tally> {
     let budgets = budgets_for(call, row, which);
     let mut tally = t;
     let mut number: u32 = 0;
@@ -92,43 +93,44 @@ fn try_on(t: Tally, call: usize, row: Row, which: u32) -> Tally {
         if !is_left_out(call, row, which, number) {
             let budget = budgets[(number % BUDGETS) as usize];
             let right = try_once(call, row, which, budget, number >= BUDGETS);
-            tally = report::counted(tally, right, row.line, try_at(which, number), budget as u64);
+            let at = try_at(which, number);
+            tally = report::counted(rt, tally, right, row.line, at, budget as u64)?;
         }
         number += 1;
     }
-    tally
+    Ok(tally)
 }
 
 // A row of a call that draws from a generator or changes it.
-fn try_call(call: usize, row: Row) -> Tally {
+fn try_call(rt: &impl Print, call: usize, row: Row) -> io::Result<Tally> {
     let mut t = report::none();
     let mut which: u32 = 0;
     while which < GENERATORS {
-        t = try_on(t, call, row, which);
+        t = try_on(rt, t, call, row, which)?;
         which += 1;
     }
-    t
+    Ok(t)
 }
 
 // `window_of` of the list's first entries.
-fn try_window(row: Row) -> Tally {
+fn try_window(rt: &impl Print, row: Row) -> io::Result<Tally> {
     let mut list = [0u32; ROOM];
     fill(&mut list);
-    report::one(windows::is_as_ordered(row, &list), row.line)
+    report::one(rt, windows::is_as_ordered(row, &list), row.line)
 }
 
 // A row of any call. One that can't be tried counts as one that is not as ordered.
-fn try_row(call: usize, row: Row) -> Tally {
+fn try_row(rt: &impl Print, call: usize, row: Row) -> io::Result<Tally> {
     if row.length > ROOM - 3 {
-        return report::one(false, row.line);
+        return report::one(rt, false, row.line);
     }
     if call < calls::MAKE {
-        return try_call(call, row);
+        return try_call(rt, call, row);
     }
     match call {
-        calls::MAKE => seeds::try_row(row),
-        calls::WINDOW_OF => try_window(row),
-        _ => report::one(false, row.line),
+        calls::MAKE => seeds::try_row(rt, row),
+        calls::WINDOW_OF => try_window(rt, row),
+        _ => report::one(rt, false, row.line),
     }
 }
 
@@ -143,41 +145,41 @@ struct Run {
 }
 
 // The heading's line of the report, where rows stand below it.
-fn closed(run: Run, text: &[u8]) -> Tally {
+fn closed(rt: &impl Print, run: Run, text: &[u8]) -> io::Result<Tally> {
     if run.here.of > 0 {
-        report::write_heading(text, run.heading);
-        report::write_tally(run.here);
+        report::write_heading(rt, text, run.heading)?;
+        report::write_tally(rt, run.here)?;
     }
-    report::added(run.all, run.here)
+    Ok(report::added(run.all, run.here))
 }
 
 // A letter of the table, which matters where a line begins: a row begins with a space, a heading with a letter or a digit.
-fn take_letter(run: Run, text: &[u8], at: usize) -> Run {
+fn take_letter(rt: &impl Print, run: Run, text: &[u8], at: usize) -> io::Result<Run> {
     let mut next = run;
     let letter = table::letter(text, at);
     next.begins = letter == b'\n';
     if !run.begins {
-        return next;
+        return Ok(next);
     }
     next.lines = std::num::wrapping_add_u64(run.lines, 1);
     match letter {
         b' ' => {
             let call = calls::number_at(text, std::num::wrapping_add_usize(run.heading, 18));
             let row = table::row_at(text, at, next.lines);
-            next.here = report::added(run.here, try_row(call, row));
+            next.here = report::added(run.here, try_row(rt, call, row)?);
         }
         b'#' | b'\n' => {}
         _ => {
-            next.all = closed(run, text);
+            next.all = closed(rt, run, text)?;
             next.here = report::none();
             next.heading = at;
         }
     }
-    next
+    Ok(next)
 }
 
 // Every row of the table, and a line of the report for each heading.
-pub(crate) fn try_table(text: &[u8]) {
+pub(crate) fn try_table(rt: &impl Print, text: &[u8]) -> io::Result<()> {
     let mut run = Run {
         all: report::none(),
         here: report::none(),
@@ -187,8 +189,8 @@ pub(crate) fn try_table(text: &[u8]) {
     };
     let mut at: usize = 0;
     while at < text.len() {
-        run = take_letter(run, text, at);
+        run = take_letter(rt, run, text, at)?;
         at += 1;
     }
-    report::write_tally(closed(run, text));
+    report::write_tally(rt, closed(rt, run, text)?)
 }

@@ -2,6 +2,7 @@
 use crate::outcome::Outcome;
 use crate::sample::ANSWER;
 use crate::{digest, perform, sample, start};
+use std::io;
 use telling::{number, small, text, word};
 
 // Rows that agree, of so many; and damages that were found, each alone and in its place, of so many.
@@ -85,32 +86,44 @@ fn compared_row(data: &[u8], row: u32) -> Difference {
     difference_at(row, 8)
 }
 
-fn tell(name: &[u8], state: &[u8], d: Difference) {
-    text(name);
-    text(state);
-    text(b": row ");
-    small(d.row);
-    text(b" differs, answer word ");
-    small(d.word);
-    text(b": recorded ");
-    word(d.recorded);
-    text(b", here ");
-    word(d.here);
-    text(b"\n");
+fn tell(rt: &impl Print, name: &[u8], state: &[u8], d: Difference) -> io::Result<()> {
+    text(rt, name)?;
+    text(rt, state)?;
+    text(rt, b": row ")?;
+    small(rt, d.row)?;
+    text(rt, b" differs, answer word ")?;
+    small(rt, d.word)?;
+    text(rt, b": recorded ")?;
+    word(rt, d.recorded)?;
+    text(rt, b", here ")?;
+    word(rt, d.here)?;
+    text(rt, b"\n")
 }
 
-fn tell_count(name: &[u8], state: &[u8], agree: u32, count: u32) {
-    text(name);
-    text(state);
-    text(b": ");
-    small(agree);
-    text(b" of ");
-    small(count);
-    text(b" rows agree\n");
+fn tell_count(
+    rt: &impl Print,
+    name: &[u8],
+    state: &[u8],
+    agree: u32,
+    count: u32,
+) -> io::Result<()> {
+    text(rt, name)?;
+    text(rt, state)?;
+    text(rt, b": ")?;
+    small(rt, agree)?;
+    text(rt, b" of ")?;
+    small(rt, count)?;
+    text(rt, b" rows agree\n")
 }
 
 // The rows of a file, told by its name and whether it is damaged.
-pub(crate) fn rows(name: &[u8], state: &[u8], data: &[u8], count: u32) -> Compared {
+pub(crate) fn rows(
+    rt: &impl Print,
+    name: &[u8],
+    state: &[u8],
+    data: &[u8],
+    count: u32,
+) -> io::Result<Compared> {
     let mut last = difference_at(0, 8);
     let mut agree: u32 = 0;
     let mut row: u32 = 0;
@@ -120,23 +133,23 @@ pub(crate) fn rows(name: &[u8], state: &[u8], data: &[u8], count: u32) -> Compar
             agree = std::num::wrapping_add_u32(agree, 1);
         } else {
             if std::num::wrapping_sub_u32(row, agree) < FEW {
-                tell(name, state, d);
+                tell(rt, name, state, d)?;
             }
             last = d;
         }
         row += 1;
     }
-    tell_count(name, state, agree, count);
-    Compared { agree, last }
+    tell_count(rt, name, state, agree, count)?;
+    Ok(Compared { agree, last })
 }
 
-pub(crate) fn total(t: Tally) {
-    number(t.agree);
-    text(b" of ");
-    number(t.rows);
-    text(b" rows agree, and ");
-    number(t.found);
-    text(b" of ");
-    number(t.damages);
-    text(b" damages are told\n");
+pub(crate) fn total(rt: &impl Print, t: Tally) -> io::Result<()> {
+    number(rt, t.agree)?;
+    text(rt, b" of ")?;
+    number(rt, t.rows)?;
+    text(rt, b" rows agree, and ")?;
+    number(rt, t.found)?;
+    text(rt, b" of ")?;
+    number(rt, t.damages)?;
+    text(rt, b" damages are told\n")
 }

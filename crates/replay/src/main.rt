@@ -17,57 +17,59 @@ mod state;
 mod words_and_floats;
 
 use compare::Tally;
+use std::io;
+use std::rt::Files;
 
-fn words_and_state(t: Tally) -> Tally {
-    let mut tally = file::replay(t, b"rand");
-    tally = file::replay(tally, b"u64");
-    tally = file::replay(tally, b"i64");
-    tally = file::replay(tally, b"pseudo");
-    tally = file::replay(tally, b"seed");
-    tally = file::replay(tally, b"split");
-    tally = file::replay(tally, b"mti");
-    tally = file::replay(tally, b"set_mti");
-    tally = file::replay(tally, b"twist");
-    file::replay(tally, b"fill_bytes")
+fn words_and_state(rt: &(impl Print + Files), t: Tally) -> io::Result<Tally> {
+    let mut tally = file::replay(rt, t, "rand")?;
+    tally = file::replay(rt, tally, "u64")?;
+    tally = file::replay(rt, tally, "i64")?;
+    tally = file::replay(rt, tally, "pseudo")?;
+    tally = file::replay(rt, tally, "seed")?;
+    tally = file::replay(rt, tally, "split")?;
+    tally = file::replay(rt, tally, "mti")?;
+    tally = file::replay(rt, tally, "set_mti")?;
+    tally = file::replay(rt, tally, "twist")?;
+    file::replay(rt, tally, "fill_bytes")
 }
 
-fn draws_and_floats(t: Tally) -> Tally {
-    let mut tally = file::replay(t, b"bounded");
-    tally = file::replay(tally, b"random_range");
-    tally = file::replay(tally, b"int");
-    tally = file::replay(tally, b"range");
-    tally = file::replay(tally, b"uint");
-    tally = file::replay(tally, b"char");
-    tally = file::replay(tally, b"choose");
-    tally = file::replay(tally, b"float");
-    tally = file::replay(tally, b"double");
-    tally = file::replay(tally, b"bool");
-    tally = file::replay(tally, b"uniform");
-    tally = file::replay(tally, b"shuffle");
-    file::replay(tally, b"rand_slice")
+fn draws_and_floats(rt: &(impl Print + Files), t: Tally) -> io::Result<Tally> {
+    let mut tally = file::replay(rt, t, "bounded")?;
+    tally = file::replay(rt, tally, "random_range")?;
+    tally = file::replay(rt, tally, "int")?;
+    tally = file::replay(rt, tally, "range")?;
+    tally = file::replay(rt, tally, "uint")?;
+    tally = file::replay(rt, tally, "char")?;
+    tally = file::replay(rt, tally, "choose")?;
+    tally = file::replay(rt, tally, "float")?;
+    tally = file::replay(rt, tally, "double")?;
+    tally = file::replay(rt, tally, "bool")?;
+    tally = file::replay(rt, tally, "uniform")?;
+    tally = file::replay(rt, tally, "shuffle")?;
+    file::replay(rt, tally, "rand_slice")
 }
 
-fn makers_and_edges(t: Tally) -> Tally {
-    let mut tally = file::replay(t, b"seeds");
-    tally = file::replay(tally, b"streams");
-    tally = file::replay(tally, b"bytes");
-    tally = file::replay(tally, b"parts");
-    tally = file::replay(tally, b"out_of_budget");
-    tally = file::replay(tally, b"above_624");
-    tally = file::replay(tally, b"list_edges");
-    tally = file::replay(tally, b"folded_to_zero");
-    file::replay(tally, b"long_runs")
+fn makers_and_edges(rt: &(impl Print + Files), t: Tally) -> io::Result<Tally> {
+    let mut tally = file::replay(rt, t, "seeds")?;
+    tally = file::replay(rt, tally, "streams")?;
+    tally = file::replay(rt, tally, "bytes")?;
+    tally = file::replay(rt, tally, "parts")?;
+    tally = file::replay(rt, tally, "out_of_budget")?;
+    tally = file::replay(rt, tally, "above_624")?;
+    tally = file::replay(rt, tally, "list_edges")?;
+    tally = file::replay(rt, tally, "folded_to_zero")?;
+    file::replay(rt, tally, "long_runs")
 }
 
-fn main() {
+fn main(rt: HostRuntime) -> io::Result<()> {
     let start = Tally {
         agree: 0,
         rows: 0,
         found: 0,
         damages: 0,
     };
-    let first = words_and_state(start);
-    let second = draws_and_floats(first);
-    let all = makers_and_edges(second);
-    compare::total(all);
+    let first = words_and_state(&rt, start)?;
+    let second = draws_and_floats(&rt, first)?;
+    let all = makers_and_edges(&rt, second)?;
+    compare::total(&rt, all)
 }

@@ -1,11 +1,11 @@
 -- For code that reads a number digit by digit: what holds before the digit at i (`Reading`), with one law for each way the digit may go.
-use Rattle.std.specs.Prelude.{◌≡◌, ℕ, suc, ◌+◌, ◌-◌, ◌*◌, ◌/◌, ◌^◌, ◌<◌, ◌≤◌, true, false, List, [], ◌∷◌, length, drop, ◌≢◌, slice_index, slice_index_or, refl}
+use Rattle.std.specs.Prelude.{◌≡◌, ℕ, suc, ◌+◌, ◌^◌, ◌<◌, ◌≤◌, true, List, [], ◌∷◌, length, drop, ◌≢◌, slice_index, slice_index_or, refl}
 use Rattle.std.proofs.Common.{sym, ◌∙◌, ap, drop-cons}
 use Rattle.std.proofs.Math.Numerals.{add-one}
 use native.Mathlib.Omega.{arith}
 use borrow.Author.Tests.{le-leb, lt-leb, lt-ltb, le-ltb}
 use Rattle.std.proofs.Math.Seq.{drop-length}
-use Rattle.week.specs.Decimal.{no_number, is_digit, with_digit, read_on, read_number}
+use Rattle.week.specs.Decimal.{no_number, with_digit, read_on, read_number}
 
 pub record Reading (text : List ℕ) (number i : ℕ) : Type 0 where
   pub within : i ≤ length text

@@ -5,6 +5,11 @@ ghost use Rattle.week.specs.Slots.{WithinLimit};
 use crate::decimal::read_number;
 use crate::job::{Job, MOST_SLOTS};
 use crate::{job, report};
+use std::env::{Env, FillError};
+use std::io::Stderr;
+
+// The most bytes of an argument that are read.
+const LONGEST: usize = 4096;
 
 #[derive(Clone, Copy)]
 pub(crate) struct Asked {
@@ -18,10 +23,18 @@ struct Taken {
     number: u64,
 }
 
+// Whether there is an argument at a place.
+pub(crate) fn is_given(rt: &impl Env, place: usize) -> bool {
+    match rt.arg(place, &mut []) {
+        Err(FillError::NotPresent) => false,
+        _ => true,
+    }
+}
+
 // Whether the usage is asked for, by the first argument.
-pub(crate) fn is_help() -> bool {
+pub(crate) fn is_help(rt: &impl Env) -> bool {
     let mut text = [0u8; 8];
-    let n = os::arg(1, &mut text);
+    let n = rt.arg(1, &mut text).unwrap_or(0);
     let name = wrapping::le_u64(&text, 0);
     if n == 2 {
         return name == wrapping::le_u64(b"-h", 0);
@@ -33,12 +46,13 @@ pub(crate) fn is_help() -> bool {
 }
 
 // The argument at a place: a number from least to most, of at most 20 digits; anything else is written to standard error.
-fn take(place: usize, name: &[u8], least: u64, most: u64) -> Taken
+fn take(rt: &impl Env, stderr: &Stderr, place: usize, name: &[u8], least: u64, most: u64) -> Taken
     ensures { result.number ≤ most }
 {
-    let mut text = io::buffer();
-    let n = os::arg(place, &mut text);
-    let whole = os::errno() == 0 && n <= 20;
+    let mut text = [0u8; LONGEST];
+    let read = rt.arg(place, &mut text);
+    let n = read.unwrap_or(0);
+    let whole = read.is_ok() && n <= 20;
     let digits = read_number(&text[..n]);
     if whole {
         if digits.valid {
@@ -52,7 +66,7 @@ fn take(place: usize, name: &[u8], least: u64, most: u64) -> Taken
             }
         }
     }
-    report::tell_bad(name, &text[..n], least, most);
+    report::tell_bad(stderr, name, &text[..n], least, most);
     Taken {
         bad: true,
         number: 0,
@@ -72,19 +86,20 @@ fn bad_arguments() -> Asked
 }
 
 // Each argument that is bad is told of.
-pub(crate) fn from_arguments() -> Asked
+pub(crate) fn from_arguments(rt: &impl Env, stderr: &Stderr) -> Asked
     ensures { WithinLimit result.job.inlets result.job.blanks }
 {
-    if os::arg_count() != 7 {
-        report::tell_count();
+    if !is_given(rt, 6) || is_given(rt, 7) {
+        report::tell_count(stderr);
         return bad_arguments();
     }
-    let kind = take(1, b"KIND", 0, 3);
-    let seed = take(2, b"SEED", 0, largest_seed(kind.number));
-    let inlets = take(3, b"INLETS", 1, MOST_SLOTS as u64);
-    let blanks = take(4, b"BLANKS", 0, (MOST_SLOTS as u64) - inlets.number);
-    let days = take(5, b"DAYS", 1, 0xffff_ffff);
-    let budget = take(6, b"BUDGET", 0, 0xffff_ffff);
+    let kind = take(rt, stderr, 1, b"KIND", 0, 3);
+    let seed = take(rt, stderr, 2, b"SEED", 0, largest_seed(kind.number));
+    let inlets = take(rt, stderr, 3, b"INLETS", 1, MOST_SLOTS as u64);
+    let most_blanks = (MOST_SLOTS as u64) - inlets.number;
+    let blanks = take(rt, stderr, 4, b"BLANKS", 0, most_blanks);
+    let days = take(rt, stderr, 5, b"DAYS", 1, 0xffff_ffff);
+    let budget = take(rt, stderr, 6, b"BUDGET", 0, 0xffff_ffff);
     let job = Job {
         kind: kind.number,
         seed: seed.number,

@@ -12,6 +12,7 @@ mod planning;
 mod report;
 
 use job::Job;
+use std::io;
 
 // Room for the longest day. The promise gives its length, which a part of it needs.
 fn longest_day() -> [u32; job::MOST_SLOTS]
@@ -20,34 +21,32 @@ fn longest_day() -> [u32; job::MOST_SLOTS]
     [0; job::MOST_SLOTS]
 }
 
-fn run(job: Job)
+fn run(rt: &impl Print, job: Job) -> io::Result<()>
     requires { WithinLimit job.inlets job.blanks }
 {
-    report::tell_job(job);
+    report::tell_job(rt, job)?;
     let mut slots = longest_day();
     let n = (job.inlets + job.blanks) as usize;
-    planning::plan_days(job, &mut slots[..n]);
+    planning::plan_days(rt, job, &mut slots[..n])
 }
 
-fn main() {
-    if arguments::is_help() {
-        report::write_usage(libc::STDOUT_FILENO);
-        return;
+fn main(rt: HostRuntime) -> io::Result<()> {
+    if arguments::is_help(&rt) {
+        return report::write_usage(&rt);
     }
-    if os::arg_count() < 2 {
+    if !arguments::is_given(&rt, 1) {
         let shown = job::example();
-        report::tell_example(shown);
-        run(shown);
-        return;
+        report::tell_example(&rt, shown)?;
+        return run(&rt, shown);
     }
-    let asked = arguments::from_arguments();
+    let stderr = rt.stderr();
+    let asked = arguments::from_arguments(&rt, &stderr);
     if asked.bad {
-        report::write_usage(libc::STDERR_FILENO);
-        return;
+        return report::write_usage(&stderr);
     }
     if asked.job.seed == 0 {
-        report::warn_of_seed_zero();
+        report::warn_of_seed_zero(&stderr);
     }
     let job = asked.job;
-    run(job);
+    run(&rt, job)
 }

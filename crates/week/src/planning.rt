@@ -2,6 +2,7 @@
 use crate::job::Job;
 use crate::report;
 use random::Random;
+use std::io;
 use wrapping::Wide;
 
 // Each kind by its own call. A seed of kind 1 has 32 bits already.
@@ -19,7 +20,7 @@ fn generator_of(kind: u64, seed: u64) -> Random {
 }
 
 // Where a day is refused it ends there: the days after it would start from a generator that has not moved.
-pub(crate) fn plan_days(job: Job, slots: &mut [u32]) {
+pub(crate) fn plan_days(rt: &impl Print, job: Job, slots: &mut [u32]) -> io::Result<()> {
     let mut next = generator_of(job.kind, job.seed);
     let mut used: u64 = 0;
     let mut day: u32 = 0;
@@ -27,13 +28,12 @@ pub(crate) fn plan_days(job: Job, slots: &mut [u32]) {
         day += 1;
         let plan = day_plan::plan_day(next, slots, job.blanks as usize, job.budget);
         if plan.refusal != words::refusal::ANSWERED {
-            report::tell_refusal(job, day, plan.refusal);
-            report::tell_total(used, day - 1);
-            return;
+            report::tell_refusal(rt, job, day, plan.refusal)?;
+            return report::tell_total(rt, used, day - 1);
         }
-        report::tell_day(job, day, slots, plan.used);
+        report::tell_day(rt, job, day, slots, plan.used)?;
         used = std::num::wrapping_add_u64(used, plan.used as u64);
         next = plan.next;
     }
-    report::tell_total(used, day);
+    report::tell_total(rt, used, day)
 }

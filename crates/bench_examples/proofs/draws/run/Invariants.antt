@@ -1,0 +1,15 @@
+-- `run` is safe and ends: the places stay within the tables.
+use Rattle.std.proofs.Common.{◌-◌, ◌≤◌}
+use Rattle.bench_examples.proofs.draws.run.Given as goal
+
+abbrev pub invariant-loop-i : goal.invariant-loop-i
+invariant-loop-i g l = l.i ≤ 13
+
+abbrev pub decreases-loop-i : goal.decreases-loop-i
+decreases-loop-i g l = 13 - l.i
+
+abbrev pub invariant-loop-j : goal.invariant-loop-j
+invariant-loop-j g l = l.j ≤ 5
+
+abbrev pub decreases-loop-j : goal.decreases-loop-j
+decreases-loop-j g l = 5 - l.j
