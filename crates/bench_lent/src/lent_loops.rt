@@ -45,8 +45,7 @@ fn draws_row(e: Engine, mt: &mut [u32; 624], r: u32, budget: u32, n: u64) -> Eng
 }
 
 // n draws below r in a row, each within the budget.
-#[unsafe(no_mangle)]
-pub extern "C" fn bench_draws_in(
+pub fn bench_draws_in(
     state: &mut [u64; 6],
     table: &mut [u32; 624],
     r: u32,

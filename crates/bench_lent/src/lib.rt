@@ -4,4 +4,4 @@
 
 mod lent_loops;
 
-pub use lent_loops::Sums;
+pub use lent_loops::{Sums, bench_draws_in};
