@@ -14,7 +14,9 @@ all: $(ARCHIVE)
 
 # An archive that is newer than everything it was made of is not made again.
 $(ARCHIVE): FORCE
-	@if [ ! -f $@ ] || [ -n "$$(find crates crates.txt -newer $@ | head -n 1)" ]; then rt staticlib vrd_ffi; fi
+	@if [ ! -f $@ ] || [ -n "$$(find crates.txt crates/*/src crates/*/specs crates/*/proofs -newer $@ 2>&1 | head -n 1)" ]; then \
+	    tools/archive vrd_ffi; \
+	fi
 
 install: all
 	mkdir -p $(INSTALLED)/include $(INSTALLED)/lib/pkgconfig

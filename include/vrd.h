@@ -8,7 +8,7 @@
  * The library is the archive of the Rattle crate vrd_ffi. `make install PREFIX=/some/folder` in the root of the repository installs it,
  * and then `cc program.c $(pkg-config --cflags --libs vrd)` finds it. Without installing:
  *
- *     rt staticlib vrd_ffi
+ *     tools/archive vrd_ffi
  *     cc -I include program.c target/staticlib/libvrd_ffi.a
  *
  * Rules that hold for every call:

@@ -1,7 +1,7 @@
 /* A unit on a jetty, once with each kind of generator: which of 40 inlets opens next, where the blanks go, and a draw that is
  * refused because its budget is too small. A seed of 32 bits may be given; without one it is 42. In the root of the repository:
  *
- *     rt staticlib vrd_ffi
+ *     tools/archive vrd_ffi
  *     cc -std=c11 -Wall -Wextra -Wpedantic -Werror -I include examples/c/jetty.c target/staticlib/libvrd_ffi.a -o jetty
  */
 #include "vrd.h"

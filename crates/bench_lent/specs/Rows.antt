@@ -1,6 +1,6 @@
 -- Draws in a row from a generator of any kind: what their values and the words that they used come to, modulo 2^64, and the generator
 -- after them. The loop over a lent table and the loop by value (`bench_values`) have one definition.
-use Rattle.std.specs.Prelude.{ℕ, zero, suc, ◌+◌, ◌%◌, ◌^◌, eqb, List}
+use Rattle.std.specs.Prelude.{ℕ, zero, suc, ◌+◌, ◌%◌, ◌^◌, List}
 use Rattle.words.specs.Draw.{bounded_by}
 use Rattle.random.specs.Generator.{words_of}
 use Rattle.random.specs.Lent.{joined_with}

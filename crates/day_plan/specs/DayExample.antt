@@ -1,6 +1,6 @@
 -- A worked example: a day of two inlets and a blank, laid out 0, 1, 2, and shuffled with the words of document 01's example of a shuffle.
 -- Three words give 2, 1, 0; with a budget of two the day stays as it came.
-use Rattle.std.specs.Prelude.{◌≡◌, refl, List, [], ◌∷◌, ℕ}
+use Rattle.std.specs.Prelude.{◌≡◌, refl, [], ◌∷◌}
 use Rattle.words.specs.Draw.{Words, listed, first, first_good, draws}
 use Rattle.rehearsal.specs.Bounds.{bounds_from}
 use Rattle.shuffle.specs.Swap.{swapped, arranged}

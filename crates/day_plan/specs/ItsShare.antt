@@ -1,12 +1,12 @@
 -- "each inlet to have exactly its share" (the order): in a day that is planned, every inlet stands once, a blank stands in as many slots as
 -- there are blanks, and nothing else stands in any slot.
 use Rattle.std.specs.Prelude.{◌≡◌, refl, List, [], ◌∷◌, ◌++◌, length, replicate}
-use Rattle.std.proofs.Common.{sym, ◌∙◌, ap, append-nil, lt_of_not-le, arith, eq-eqb, ne_eqb}
+use Rattle.std.proofs.Common.{◌∙◌, ap, append-nil, lt_of_not-le, arith, eq-eqb, ne_eqb}
 use Prim.Native.Nat.{ℕ, zero, suc, ◌+◌, ◌-◌, ◌≤◌, ◌<◌, min}
 use Rattle.std.proofs.Math.Decide.{dec_le}
 use Rattle.words.specs.Refusal.{answered}
 use Rattle.words.specs.Draw.{Words}
-use Rattle.shuffle.specs.Shuffle.{shuffle_by, shuffled}
+use Rattle.shuffle.specs.Shuffle.{shuffle_by}
 use Rattle.shuffle.specs.SameEntries.{one, how_many, same_entries}
 use Rattle.day_plan.specs.Day.{blank, inlets_from, laid_out, planned_day}
 use Rattle.day_plan.specs.DayLaws.{plan_answered}

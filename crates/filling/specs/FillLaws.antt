@@ -8,7 +8,7 @@ use Rattle.mersenne_twister.specs.SequenceLaws.{length_terms, terms_at}
 use Rattle.random.specs.declared.backend.Random.{Random}
 use Rattle.random.specs.Generator.{width_of, own_word, step, later}
 use Rattle.random.specs.GeneratorLaws.{width_positive, later_none}
-use Rattle.filling.specs.Fill.{byte_of, byte_in, bytes_from, words_for, own_words, filled_bytes, fill_words, FilledFrom}
+use Rattle.filling.specs.Fill.{byte_of, byte_in, bytes_from, words_for, own_words, filled_bytes, FilledFrom}
 use Rattle.filling.specs.FillKinds.{WholeOwn}
 use Rattle.filling.specs.FillLoop.{after, words_from, written_more}
 use Rattle.filling.specs.Poke.{poke}

@@ -1,9 +1,9 @@
 -- Which floats and patterns are a NaN's, by the tests that code can make: a NaN alone differs from itself.
-use Rattle.std.specs.Prelude.{◌≡◌, refl, ℕ, Bool, true, false, not, ◌&&◌, ◌||◌, eqb, Float}
-use Rattle.std.proofs.Common.{ap, eq-eqb}
+use Rattle.std.specs.Prelude.{◌≡◌, refl, ℕ, Bool, true, false, Float}
+use Rattle.std.proofs.Common.{eq-eqb}
 use Rattle.std.specs.Bool.{beq}
 use Rattle.std.specs.Float.{nan, inf, fin}
-use Rattle.std.specs.Float.Ieee.{up, down, is_nan, eq, ne, level}
+use Rattle.std.specs.Float.Ieee.{is_nan, eq, ne, level}
 
 alike : (s : Bool) → beq s s ≡ true
 alike true = refl

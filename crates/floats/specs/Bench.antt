@@ -1,5 +1,5 @@
 -- The bench examples on floats (document 01), computed of the definitions.
-use Rattle.std.specs.Prelude.{ℕ, false, List, [], ◌∷◌, pos, negsuc, Float}
+use Rattle.std.specs.Prelude.{false, List, [], ◌∷◌, pos, negsuc, Float}
 use Rattle.std.specs.Float.{fin}
 use Rattle.words.specs.Table.{Row}
 use Rattle.floats.specs.Units.{float_of, double_of}

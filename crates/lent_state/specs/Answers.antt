@@ -1,9 +1,8 @@
 -- What every export leaves: its answer, the state and the table. The boundary's own refusal stands here, once for all of them.
-use Rattle.std.specs.Prelude.{ℕ, cond, List, ◌≡◌, leb}
+use Rattle.std.specs.Prelude.{ℕ, cond, List, leb}
 use Rattle.words.specs.Refusal as refusal
 use Rattle.random.specs.Lent.{engine_in, table_in}
 use Rattle.random.specs.declared.backend.Random.{Random}
-use Rattle.random.specs.declared.engine.Engine.{Engine}
 use Rattle.lent_state.specs.State.{kind_in, generator_in, state_after}
 
 -- an answer, with the state and the table after the call

@@ -1,7 +1,7 @@
 -- The laws of the rule: a kind above 3 is refused; of every other what is told is the library's reply, written back; and what is told is
 -- that answer, that state and that table.
 use Rattle.std.specs.Prelude.{◌≡◌, refl, Bool, true, false, List, ℕ, ◌≤◌, ◌<◌, leb}
-use Rattle.std.proofs.Common.{sym, ◌∙◌, ap, le-leb, ne_eqb}
+use Rattle.std.proofs.Common.{◌∙◌, ap, le-leb, ne_eqb}
 use Rattle.std.proofs.lemmas.Bool.{lt-leb}
 use Rattle.words.specs.Refusal as refusal
 use Rattle.random.specs.Lent.{joined_with}

@@ -1,6 +1,6 @@
 -- Making a generator (document 01, "When the unit says no"): from its kind's own parts, and from a kind number and a byte seed. The seeding
 -- itself is each kind's own definition. What a kind does not use is zeros.
-use Rattle.std.specs.Prelude.{ℕ, zero, suc, Bool, true, false, cond, List, leb, eqb, length, replicate}
+use Rattle.std.specs.Prelude.{ℕ, cond, List, leb, eqb, length, replicate}
 use Rattle.mersenne_twister.specs.declared.MersenneTwister as twister_type
 use Rattle.mersenne_twister.specs.Table as twister
 use Rattle.pcg.specs.Pcg32 as pcg32
@@ -11,7 +11,6 @@ use Rattle.words.specs.Refusal as refusal
 use Rattle.xoshiro.specs.Generator as xoshiro
 use Rattle.xoshiro.specs.Seed as xoshiro_seed
 use Rattle.xoshiro.specs.declared.Xoshiro256PlusPlus as xoshiro_type
-use Rattle.random.specs.declared.backend.Backend.{Backend}
 use Rattle.random.specs.declared.backend.Backend.TheVariants.{Xoshiro256PlusPlus, MersenneTwister, Pcg32, Pcg64}
 use Rattle.random.specs.declared.backend.Random.{Random}
 use Rattle.making.specs.declared.bytes.Made.{Made}

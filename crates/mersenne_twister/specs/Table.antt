@@ -1,6 +1,6 @@
 -- MT19937 over a table of 624 words and a position in it, as the authors' mt19937ar.c keeps them (`mt`, `mti`): seeding, the twist in
 -- place, draws.
-use Rattle.std.specs.Prelude.{ℕ, zero, suc, ◌+◌, ◌*◌, ◌%◌, ◌^◌, min, List, set, bit_xor, nat_lt, slice_index, slice_set}
+use Rattle.std.specs.Prelude.{ℕ, zero, suc, ◌+◌, ◌*◌, ◌%◌, ◌^◌, min, List, bit_xor, nat_lt, slice_index, slice_set}
 use Rattle.wrapping.specs.Bytes.{little}
 use Rattle.mersenne_twister.specs.declared.MersenneTwister.{MersenneTwister}
 use Rattle.mersenne_twister.specs.declared.Drawn32.{Drawn32}

@@ -1,6 +1,6 @@
 -- What it is for a test to decide a statement: it is true exactly where the statement holds.
 use Rattle.std.specs.Prelude.{Bool, true, false, ◌≡◌, refl, ℕ}
-use Rattle.std.proofs.Common.{sym, ◌∙◌, arith}
+use Rattle.std.proofs.Common.{sym, arith}
 
 -- true exactly where P holds
 abbrev pub Decides : Bool → Type 0 → Type 0

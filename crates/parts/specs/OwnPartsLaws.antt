@@ -2,13 +2,9 @@
 use Rattle.std.specs.Prelude.{List, ◌≡◌, refl, ℕ}
 use Rattle.std.proofs.Common.{sym, ◌∙◌, arith}
 use Rattle.std.proofs.Math.Path.{ap}
-use Rattle.pcg.specs.declared.pcg32.Pcg32 as pcg32_type
-use Rattle.pcg.specs.declared.pcg64.Pcg64 as pcg64_type
-use Rattle.xoshiro.specs.declared.Xoshiro256PlusPlus as xoshiro_type
 use Rattle.random.specs.declared.backend.Random.{Random}
 use Rattle.random.specs.declared.backend.Backend.{Backend}
 use Rattle.random.specs.declared.backend.Backend.TheVariants.{Xoshiro256PlusPlus, MersenneTwister, Pcg32, Pcg64}
-use Rattle.parts.specs.declared.read_out.Small.{Small}
 use Rattle.parts.specs.Kind.{kind_of, small_words}
 use Rattle.parts.specs.OwnParts.{table_part, Own, own_parts}
 use Rattle.parts.specs.Position.{position_of}

@@ -1,12 +1,11 @@
 -- The laws of `split`: it is refused exactly on the kinds other than 0, and what the call by value builds of the lent one.
-use Rattle.std.specs.Prelude.{◌≡◌, refl, ℕ}
+use Rattle.std.specs.Prelude.{◌≡◌, refl}
 use Rattle.std.proofs.Common.{sym, ◌∙◌, ap, arith}
 use Rattle.random.specs.declared.backend.Backend.{Backend}
 use Rattle.random.specs.declared.backend.Backend.TheVariants.{Xoshiro256PlusPlus, MersenneTwister, Pcg32, Pcg64}
 use Rattle.random.specs.declared.backend.Random.{Random}
 use Rattle.random.specs.declared.engine.Engine.{Engine}
 use Rattle.parts.specs.declared.splitting.EngineSplit.{EngineSplit}
-use Rattle.parts.specs.declared.splitting.SplitAnswer.{SplitAnswer}
 use Rattle.parts.specs.Kind.{kind_of}
 use Rattle.making.specs.Make.{zero_generator}
 use Rattle.parts.specs.Splitting.{refused_split, engine_split_by, engine_split, split_by, split_of}

@@ -1,5 +1,5 @@
 -- The words of state and increment have 64 bits, as the code's have: a generator that is seeded has such words, and a step keeps them.
-use Rattle.std.specs.Prelude.{ℕ, ◌<◌}
+use Rattle.std.specs.Prelude.{ℕ}
 use Rattle.std.proofs.Common.{mod-lt, lit<}
 use Rattle.wrapping.specs.WideLaws.{sized_wide}
 use Rattle.pcg.specs.declared.pcg32.Pcg32.{Pcg32}

@@ -1,6 +1,6 @@
 -- PCG-XSL-RR-128/64 of O'Neill's paper: 128 bits of state, held as two words, and words of 64 bits. The output is that of the old
 -- state, as the Rust has it; O'Neill's library steps first at this width, so its words are these without the first.
-use Rattle.std.specs.Prelude.{ℕ, ◌+◌, ◌*◌, ◌/◌, ◌%◌, ◌^◌, List, bit_xor}
+use Rattle.std.specs.Prelude.{ℕ, ◌/◌, ◌%◌, ◌^◌, List, bit_xor}
 use Rattle.wrapping.specs.Bytes.{little}
 use Rattle.wrapping.specs.Rotate.{rotate_right}
 use Rattle.wrapping.specs.Wide.{value, wide}

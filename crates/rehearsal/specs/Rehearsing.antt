@@ -1,13 +1,13 @@
 -- Draws below so many bounds under one budget, for code that looks at one word after the other: what holds after some words, and what it
 -- comes to at the end. The values so far are those that the words taken settle (`values_after`), whatever gives the words.
 use Rattle.std.specs.Prelude.{◌≡◌, refl, Bool, true, false, List, [], ◌∷◌, ◌++◌, ℕ, zero, suc, ◌+◌, ◌-◌, ◌≤◌, ◌<◌, ◌⊎◌, length}
-use Rattle.std.proofs.Common.{sym, ◌∙◌, ap, inl, inr, ⊎_elim, add-zero, lt_of_not-le, arith, length-append}
+use Rattle.std.proofs.Common.{◌∙◌, ap, inl, inr, ⊎_elim, add-zero, lt_of_not-le, arith, length-append}
 use Rattle.std.proofs.Math.Decide.{dec_le}
 use Rattle.words.specs.Draw.{Words, good, quotient, all, short, draws}
 use Rattle.rehearsal.specs.Bounds.{bound_after, bounds_from}
 use Rattle.rehearsal.specs.BoundsLaws.{bound_none, bound_more, bounds_none, bounds_some}
 use Rattle.rehearsal.specs.Values.{values_after, settled_after, bound_left}
-use Rattle.rehearsal.specs.ValuesLaws.{values_none, values_good, values_bad, settled_few}
+use Rattle.rehearsal.specs.ValuesLaws.{values_good, values_bad, settled_few}
 use Rattle.rehearsal.specs.WordAfterWord.{Underway, underway_start, underway_good, underway_bad, underway_done, underway_out}
 
 -- After `taken` words: no more draws are settled than asked for, no more words taken than the budget, and no word past the last draw.

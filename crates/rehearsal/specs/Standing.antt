@@ -1,5 +1,5 @@
 -- Where draws from a generator stand after some of its words: with one law for a word more, and what a rehearsal says at the end.
-use Rattle.std.specs.Prelude.{◌≡◌, refl, Bool, true, false, ◌⊎◌, ℕ, ◌+◌, ◌≤◌, ◌<◌, length}
+use Rattle.std.specs.Prelude.{◌≡◌, Bool, true, false, ◌⊎◌, ℕ, ◌+◌, ◌≤◌, ◌<◌, length}
 use Rattle.std.proofs.Common.{sym, ◌∙◌, ap, inl, inr, arith}
 use Rattle.words.specs.Draw.{Words, good}
 use Rattle.random.specs.declared.backend.Random.{Random}

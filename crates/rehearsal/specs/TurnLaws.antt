@@ -1,5 +1,5 @@
 -- The laws of turns: what a turn's own code builds, and where the draws stand after it.
-use Rattle.std.specs.Prelude.{◌≡◌, refl, Bool, true, false, List, [], ◌∷◌, ◌++◌, ℕ, ◌+◌, ◌-◌, ◌≤◌, ◌<◌, min, length, take, drop}
+use Rattle.std.specs.Prelude.{◌≡◌, Bool, List, ◌++◌, ℕ, ◌+◌, ◌≤◌, ◌<◌, length, take, drop}
 use Rattle.std.proofs.Common.{sym, ◌∙◌, ap, arith, length-append, length-take, length-take-le}
 use Rattle.words.specs.Draw.{Words, after, listed}
 use Rattle.random.specs.declared.backend.Random.{Random}

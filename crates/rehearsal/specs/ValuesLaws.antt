@@ -1,11 +1,11 @@
 -- The laws of values that words settle: one word more, some words more, and that only the words themselves count.
 use Rattle.std.specs.Prelude.{◌≡◌, Bool, true, false, cond, List, [], ◌∷◌, ◌++◌, ℕ, zero, suc, ◌+◌, ◌≤◌, ◌<◌, length}
 use Rattle.std.proofs.Math.Path.{refl}
-use Rattle.std.proofs.Common.{sym, ◌∙◌, ap, append_assoc, append-nil, add-zero, add-suc, arith, length-append}
+use Rattle.std.proofs.Common.{sym, ◌∙◌, ap, append_assoc, append-nil, add-zero, arith, length-append}
 use Rattle.std.proofs.Math.Numerals.{add-one}
 use Rattle.words.specs.Draw.{Words, after, good, quotient}
 use Rattle.rehearsal.specs.Bounds.{bound_after}
-use Rattle.rehearsal.specs.BoundsLaws.{bound_none, bound_more}
+use Rattle.rehearsal.specs.BoundsLaws.{bound_more}
 use Rattle.rehearsal.specs.Values.{settled_by, values_after, settled_after, bound_left}
 
 module _ (s : Words) (first : ℕ) (falls : Bool) where

@@ -4,7 +4,7 @@ use Rattle.std.specs.Prelude.{◌≡◌, refl, Bool, true, false, List, [], ◌�
 use Rattle.std.proofs.Common.{sym, ◌∙◌, ap, append_assoc, arith, leb-true, leb-false}
 use Rattle.words.specs.Draw.{Words, after, good, quotient, all, short, draws}
 use Rattle.words.specs.GoodWord.{Fails, FirstGood, NoneGood}
-use Rattle.words.proofs.GoodWord.{good_passes, bad_fails, fails_for_zero}
+use Rattle.words.proofs.GoodWord.{good_passes, bad_fails}
 use Rattle.words.proofs.DrawAfterDraw.{next_settled, next_short}
 use Rattle.words.specs.DrawsLoop.{Running}
 use Rattle.words.proofs.DrawsLoop.{running_start, running_done}

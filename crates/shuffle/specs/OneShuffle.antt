@@ -1,7 +1,7 @@
 -- What the shuffle's promise fixes: one answer and one list, the generator after the words used, and when it is refused, and with which
 -- number.
 use Rattle.std.specs.Prelude.{◌≡◌, refl, List, ◌↔◌, ℕ, ◌-◌, ◌≤◌, ◌<◌, length}
-use Rattle.std.proofs.Common.{sym, ◌∙◌, ap, lt_of_not-le, arith}
+use Rattle.std.proofs.Common.{◌∙◌, ap, lt_of_not-le, arith}
 use Rattle.std.proofs.Math.Decide.{dec_le}
 use Rattle.words.specs.Refusal.{answered, too_long, out_of_budget}
 use Rattle.words.specs.declared.outcome.Outcome.{Outcome}

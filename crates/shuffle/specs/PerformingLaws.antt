@@ -1,29 +1,27 @@
 -- The loop of swaps, turn after turn, and what it comes to; and that it is the shuffle where the shuffle is answered.
-use Rattle.std.specs.Prelude.{◌≡◌, refl, Bool, true, false, cond, List, [], ◌∷◌, ◌++◌, ℕ, ◌+◌, ◌-◌, ◌≤◌, ◌<◌, ltb, length, take, drop}
-use Rattle.std.proofs.Common.{sym, ◌∙◌, ap, true≢false, append_assoc, lt_of_not-le, arith, lt-ltb, le-ltb, length-append}
-use Rattle.std.proofs.Math.Decide.{dec_le}
+use Rattle.std.specs.Prelude.{◌≡◌, true, List, ℕ, ◌-◌, ◌≤◌, ◌<◌, length, take}
+use Rattle.std.proofs.Common.{sym, ◌∙◌, ap, append_assoc, arith, lt-ltb, le-ltb, length-append}
 use Rattle.std.proofs.Math.Seq.{take-append_seam}
-use Rattle.words.specs.Refusal.{answered}
-use Rattle.words.specs.Draw.{Words, Drawn, all, short, outcome_of}
+use Rattle.words.specs.Draw.{Words, all}
 use Rattle.random.specs.declared.backend.Random.{Random}
 use Rattle.random.specs.declared.engine.Engine.{Engine}
-use Rattle.random.specs.Generator.{later, words_of}
+use Rattle.random.specs.Generator.{words_of}
 use Rattle.random.specs.Lent.{joined_with}
 use Rattle.lists.specs.Limit.{list_limit}
 use Rattle.rehearsal.specs.Rehearsal.{taken_by}
 use Rattle.rehearsal.specs.Rehearsing.{rehearsing_within, rehearsing_done, rehearsing_out, drawn_values}
 use Rattle.rehearsal.specs.Values.{values_after}
 use Rattle.rehearsal.specs.ValuesLaws.{values_none}
-use Rattle.rehearsal.specs.Turns.{values_in_front, words_taken, values_taken}
+use Rattle.rehearsal.specs.Turns.{words_taken, values_taken}
 use Rattle.rehearsal.specs.Standing.{Standing, standing_start}
-use Rattle.rehearsal.specs.TurnLaws.{standing_on, values_on, fresh}
+use Rattle.rehearsal.specs.TurnLaws.{standing_on, values_on}
 use Rattle.rehearsal.specs.Promises.{TakeTurnPromise}
 use Rattle.rehearsal.specs.declared.turns.Draws.{Draws}
 use Rattle.rehearsal.specs.declared.turns.Turn.{Turn}
 use Rattle.shuffle.specs.Swap.{arranged}
 use Rattle.shuffle.specs.SwapLaws.{arranged_none, arranged_append, length_arranged}
-use Rattle.shuffle.specs.Shuffle.{places_drawn, shuffle_by, list_after, shuffled}
-use Rattle.shuffle.specs.ShuffleLaws.{shuffle_long, shuffle_drawn, list_drawn}
+use Rattle.shuffle.specs.Shuffle.{places_drawn, list_after, shuffled}
+use Rattle.shuffle.specs.ShuffleLaws.{list_drawn}
 use Rattle.shuffle.specs.Performing.{draws_below, shuffle_draws, words_performed, performed}
 use Rattle.shuffle.specs.Promises.{PerformInPromise}
 

@@ -1,5 +1,5 @@
 -- What the shuffle over a lent table owes, by its ways out.
-use Rattle.std.specs.Prelude.{◌≡◌, refl, Bool, true, false, List, ℕ, ◌≤◌, ◌<◌, length}
+use Rattle.std.specs.Prelude.{◌≡◌, Bool, true, false, List, ℕ, ◌≤◌, ◌<◌, length}
 use Rattle.std.proofs.Math.Path.{sym, ap}
 use Rattle.std.proofs.Common.{◌∙◌, true≢false}
 use Rattle.words.specs.Refusal.{answered, too_long, out_of_budget}

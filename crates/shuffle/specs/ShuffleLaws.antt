@@ -1,14 +1,11 @@
 -- The shuffle by its cases, for code that works it out.
 use Rattle.std.specs.Prelude.{◌≡◌, List, [], ℕ, ◌-◌, ◌≤◌, ◌<◌, length}
-use Rattle.std.proofs.Common.{sym, ◌∙◌, ap, arith, lt-ltb, le-ltb}
-use Rattle.words.specs.Refusal.{too_long, out_of_budget}
-use Rattle.words.specs.declared.outcome.Outcome.{Outcome}
-use Rattle.words.specs.Draw.{Words, all, short, refused, gives, outcome_of}
+use Rattle.std.proofs.Common.{arith, lt-ltb, le-ltb}
+use Rattle.words.specs.Refusal.{too_long}
+use Rattle.words.specs.Draw.{Words, all, refused, outcome_of}
 use Rattle.words.proofs.OneOutcomeOfDraws.{draws_done}
 use Rattle.lists.specs.Limit.{list_limit}
 use Rattle.rehearsal.specs.BoundsLaws.{bounds_none}
-use Rattle.shuffle.specs.Swap.{arranged}
-use Rattle.shuffle.specs.SwapLaws.{arranged_none}
 use Rattle.shuffle.specs.Shuffle.{places_drawn, shuffle_by, list_after, shuffled}
 
 module _ (s : Words) (budget : ℕ) where

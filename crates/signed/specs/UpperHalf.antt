@@ -1,6 +1,6 @@
 -- How the code reads a word n of the upper half: n less the half is a number of the lower half, and that less the half again, as signed
 -- numbers, is n - 2 ^ bits. Once over the width w; the half, 2 ^ hbits, is `suc h`, so that minus the half is `negsuc h`.
-use Rattle.std.specs.Prelude.{◌≡◌, ℕ, suc, ◌+◌, ◌-◌, ◌^◌, ◌≤◌, ◌<◌, ℤ, negsuc, ◌+ℤ◌}
+use Rattle.std.specs.Prelude.{◌≡◌, ℕ, suc, ◌+◌, ◌-◌, ◌^◌, ◌≤◌, ◌<◌, negsuc, ◌+ℤ◌}
 use Rattle.std.proofs.Common.{◌∙◌, arith, lt-ltb, le-ltb}
 use Rattle.std.specs.Int.{Width}
 use mir.Val.{bits, hbits, SFits, of_z, to_z}

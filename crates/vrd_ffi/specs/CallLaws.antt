@@ -1,24 +1,24 @@
 -- The calls over lists and buffers, splitting and equality: what the code builds of what the library answers.
-use Rattle.std.specs.Prelude.{ℕ, ◌≤◌, ◌<◌, length, Bool, true, false, List, ◌≡◌, refl}
-use Rattle.std.proofs.Common.{arith, eq-eqb, ne_eqb, sym, ◌∙◌, ap, ap₂}
+use Rattle.std.specs.Prelude.{ℕ, ◌≤◌, ◌<◌, length, Bool, false, List, ◌≡◌}
+use Rattle.std.proofs.Common.{arith, eq-eqb, ne_eqb, sym, ◌∙◌, ap₂}
 use Rattle.words.specs.Refusal as refusal
-use Rattle.random.specs.Generator.{later, words_of}
+use Rattle.random.specs.Generator.{words_of}
 use Rattle.random.specs.Lent.{joined_with}
 use Rattle.random.specs.declared.backend.Random.{Random}
 use Rattle.random.specs.declared.engine.Engine.{Engine}
 use Rattle.bounded.specs.Answers as library
 use Rattle.bounded.specs.declared.answers.Answer.{Answer}
 use Rattle.bounded.specs.declared.answers.EngineAnswer.{EngineAnswer}
-use Rattle.filling.specs.Fill.{FilledFrom, filled_bytes, fill_words}
+use Rattle.filling.specs.Fill.{FilledFrom}
 use Rattle.parts.specs.Decides.{Decides, decides_no}
 use Rattle.parts.specs.OwnParts.{own_parts}
 use Rattle.parts.specs.Splitting.{engine_split}
 use Rattle.parts.specs.declared.splitting.EngineSplit.{EngineSplit}
 use Rattle.shuffle.specs.Shuffle.{shuffle_by, shuffled}
 use Rattle.vrd_ffi.specs.declared.answers.Number.{Number}
-use Rattle.lent_state.specs.Answers.{told, gives, formed, of_known}
+use Rattle.lent_state.specs.Answers.{gives, formed, of_known}
 use Rattle.lent_state.specs.AnswersLaws.{of_known_lem, of_unknown, settled, wrote}
-use Rattle.vrd_ffi.specs.Handed.{number, number_of, drawn_by, listed, halves, divided, same_refusal, Equal}
+use Rattle.vrd_ffi.specs.Handed.{number, number_of, listed, halves, divided}
 use Rattle.vrd_ffi.specs.Promises.{VrdShufflePromise, VrdFillBytesPromise, VrdSplitPromise, VrdSamePromise}
 use Rattle.lent_state.specs.State.{kind_in, engine_from, generator_in, state_with, state_after, state_of}
 

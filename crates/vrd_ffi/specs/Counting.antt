@@ -1,5 +1,5 @@
 -- A number drawn, counted from a signed one: as integers, and as the code works it out, modulo 2^32 and read back as signed.
-use Rattle.std.specs.Prelude.{ℕ, ◌%◌, ◌^◌, eqb, ℤ, pos, ◌+ℤ◌, cond}
+use Rattle.std.specs.Prelude.{◌%◌, ◌^◌, eqb, ℤ, pos, ◌+ℤ◌, cond}
 use Rattle.words.specs.Refusal as refusal
 use Rattle.signed.specs.Signed.{wrapped_sum}
 use Rattle.spans.specs.declared.ints.IntEngineAnswer.{IntEngineAnswer}

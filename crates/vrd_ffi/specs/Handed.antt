@@ -1,6 +1,6 @@
 -- The exports' answers: how each is put together, what it is where the call is refused, and what is handed out of the library's answer by
 -- value.
-use Rattle.std.specs.Prelude.{ℕ, ◌≤◌, eqb, ℤ, pos, Float, Bool, cond, List, ◌≡◌}
+use Rattle.std.specs.Prelude.{ℕ, ◌≤◌, eqb, ℤ, Float, Bool, cond, List, ◌≡◌}
 use Rattle.std.specs.Float.Ieee.{of_bits}
 use Rattle.std.specs.Float.{binary32, binary64}
 use Rattle.words.specs.declared.outcome.Outcome.{Outcome}

@@ -1,7 +1,7 @@
 -- The laws of moves: each kind's own word, half a word of 64 bits, and the first word of a draw.
 use Rattle.std.specs.Prelude.{◌≡◌, refl, Bool, true, false, cond, List, ℕ, zero, suc, ◌≤◌, ◌<◌, ◌/◌, ◌*◌, ◌%◌, ◌^◌, ◌+◌, eqb, get_or}
 use Rattle.std.proofs.Common.{sym, ◌∙◌, ap, arith, mod-lt, eq-eqb, ne_eqb}
-use Rattle.words.specs.Draw.{good, quotient}
+use Rattle.words.specs.Draw.{good}
 use Rattle.words.proofs.BelowItsBound.{quotient_below}
 use Rattle.words.proofs.GoodWord.{good_passes, passes_good, passes_positive}
 use Rattle.mersenne_twister.specs.declared.Drawn32.{Drawn32}
@@ -23,8 +23,8 @@ use Rattle.xoshiro.specs.declared.Drawn64 as xoshiro_drawn64
 use Rattle.random.specs.Generator.{step, later, word_of, word64_of, steps64, rand_of, u64_of}
 use Rattle.random.specs.GeneratorLaws.{rand_is_high_half}
 use Rattle.random.specs.declared.backend.Backend.TheVariants.{Xoshiro256PlusPlus, Pcg64}
-use Rattle.lent_state.specs.Answers.{Told, told, written}
-use Rattle.vrd_ffi.specs.Moves.{drew32, drew64, steps_in, Moves32, Moves64, IsWide, Settled, Settles, Hit, Quick}
+use Rattle.lent_state.specs.Answers.{Told, told}
+use Rattle.vrd_ffi.specs.Moves.{steps_in, Moves32, Moves64, IsWide, Settled, Settles, Quick}
 use Rattle.lent_state.specs.State.{kind_in, position_in, xoshiro_in, pcg32_in, pcg64_in, backend_in, generator_in}
 use Rattle.lent_state.specs.State.{six, small_state, position_state, state_with, state_after}
 

@@ -1,6 +1,6 @@
 -- A single draw's answer in one number: the value alone where one word settled it, as it nearly always does; otherwise, from 2^32 on, the
 -- value with the words used in front, or, with 1 in front, the number of the refusal.
-use Rattle.std.specs.Prelude.{ℕ, ◌+◌, ◌*◌, ◌/◌, ◌%◌, ◌^◌, ◌≤◌, ◌<◌, cond, List, ◌≡◌, ltb, eqb}
+use Rattle.std.specs.Prelude.{ℕ, ◌+◌, ◌*◌, ◌/◌, ◌%◌, ◌^◌, ◌<◌, cond, List, ◌≡◌, ltb, eqb}
 use Rattle.words.specs.Draw.{bounded_by}
 use Rattle.words.specs.Refusal as refusal
 use Rattle.words.specs.Outcomes.{raised}

@@ -14,21 +14,19 @@ use Rattle.words.proofs.GoodWord.{good_passes}
 use Rattle.words.specs.OneOutcome.{Bounded, zero_range_lem, answers, out_of_budget_lem}
 use Rattle.words.proofs.OneOutcome.{bounded_is}
 use Rattle.words.specs.Refusal as refusal
-use Rattle.random.specs.Generator.{step, later, word_of, words_of, rand_of}
-use Rattle.random.specs.GeneratorLaws.{later_none, later_one, word_at}
+use Rattle.random.specs.Generator.{later, word_of, words_of, rand_of}
+use Rattle.random.specs.GeneratorLaws.{later_none, word_at}
 use Rattle.random.specs.Lent.{joined_with}
-use Rattle.random.specs.declared.backend.Random.{Random}
-use Rattle.random.specs.declared.engine.Engine.{Engine}
 use Rattle.bounded.specs.Answers as library
 use Rattle.words.specs.OutcomeLaws.{raised_answered, raised_refused}
 use Rattle.words.specs.Outcomes.{raised}
 use Rattle.bounded.specs.declared.answers.Answer.{Answer}
 use Rattle.bounded.specs.declared.answers.EngineAnswer.{EngineAnswer}
 use Rattle.vrd_ffi.specs.declared.answers.Number.{Number}
-use Rattle.lent_state.specs.Answers.{Told, told, Reply, reply, written, at_boundary}
+use Rattle.lent_state.specs.Answers.{Told, told, written}
 use Rattle.lent_state.specs.AnswersLaws.{unknown_kind, known_kind, settled}
 use Rattle.vrd_ffi.specs.Handed.{number, number_of, drawn_by}
-use Rattle.vrd_ffi.specs.Moves.{Moves32, Settled, Hit, Quick, below_within}
+use Rattle.vrd_ffi.specs.Moves.{Hit, Quick, below_within}
 use Rattle.vrd_ffi.specs.Packed.{unpacked, packed, Drew, Draws, Below}
 use Rattle.lent_state.specs.State.{kind_in, generator_in, state_after}
 

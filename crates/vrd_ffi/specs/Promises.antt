@@ -39,7 +39,7 @@ use Rattle.lent_state.specs.Answers.{told, gives, formed, of_known, at_boundary}
 use Rattle.vrd_ffi.specs.Handed.{word, signed_word, number, integer, choice, number32, number64, coin, zero32, zero64}
 use Rattle.vrd_ffi.specs.Handed.{word_of32, word_of64, signed_of64, drawn_by, counted_by, choice_of, start_of}
 use Rattle.vrd_ffi.specs.Handed.{float_of, double_of, coin_of, spread_of}
-use Rattle.vrd_ffi.specs.Handed.{Listed, listed, made, halves, divided, same_refusal, Equal}
+use Rattle.vrd_ffi.specs.Handed.{listed, made, halves, divided, same_refusal, Equal}
 use Rattle.lent_state.specs.Placing.{state_made}
 use Rattle.lent_state.specs.State.{backend_in, position_in, engine_from}
 

@@ -1,6 +1,6 @@
 -- The calls that move the generator by a word in place: what the code hands out of the word.
-use Rattle.std.specs.Prelude.{ℕ, ◌≤◌, Float, pos, Bool, true, List, ◌≡◌}
-use Rattle.std.proofs.Common.{arith, sym, ◌∙◌, ap}
+use Rattle.std.specs.Prelude.{ℕ, ◌≤◌, Float, pos, true, List, ◌≡◌}
+use Rattle.std.proofs.Common.{arith, ◌∙◌, ap}
 use borrow.Author.Tests.{eq-eqb, ne_eqb}
 use Rattle.std.proofs.Math.Bool.{false}
 use Rattle.std.proofs.Math.Path.{refl}

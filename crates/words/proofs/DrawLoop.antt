@@ -3,7 +3,7 @@
 use Rattle.std.specs.Prelude.{◌≡◌, refl, Bool, true, false, cond, ℕ, ◌+◌, ◌≤◌, ◌<◌, leb, eqb}
 use Rattle.std.proofs.Common.{sym, ◌∙◌, ap, ap₂, true≢false, arith, eq-eqb, ne_eqb, leb-true, leb-false}
 use Rattle.words.specs.Refusal.{out_of_budget}
-use Rattle.words.specs.Draw.{Words, good, quotient, at, refused, gives, bounded_by}
+use Rattle.words.specs.Draw.{Words, good, quotient, refused, gives, bounded_by}
 use Rattle.words.specs.GoodWord.{Fails, FirstGood, NoneGood, Looked, some_good}
 use Rattle.words.proofs.GoodWord.{good_passes, bad_fails, fails_for_zero}
 use Rattle.words.specs.GoodWord.{none_good}

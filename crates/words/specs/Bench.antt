@@ -4,7 +4,7 @@ use Rattle.std.specs.Prelude.{◌&&◌, List, [], ◌∷◌, ℕ, ◌+◌, ◌*�
 use Rattle.words.specs.declared.outcome.Outcome.{Outcome}
 use Rattle.words.specs.Draw.{listed, good, quotient, bounded_by}
 use Rattle.words.specs.Count.{count}
-use Rattle.words.specs.Table.{Row, ◌&◌}
+use Rattle.words.specs.Table.{Row}
 
 -- a number
 abbrev pub number : ℕ → ℕ → Row

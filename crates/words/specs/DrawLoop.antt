@@ -1,7 +1,7 @@
 -- For code that draws below r from any source of words, one word after the other: what holds while no word was good (`Searching`), and what
 -- such a draw tells at its end (`Told`), with one law for each way through the loop.
 use Rattle.std.specs.Prelude.{◌≡◌, Bool, true, false, cond, ℕ, ◌+◌, ◌≤◌, eqb}
-use Rattle.words.specs.Draw.{Words, good, quotient, Found, at, nowhere, first_good}
+use Rattle.words.specs.Draw.{Words, quotient, Found, at, nowhere, first_good}
 use Rattle.words.specs.GoodWord.{NoneGood}
 
 -- What is told of a draw: whether a word settled it,

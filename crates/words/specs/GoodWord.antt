@@ -1,6 +1,6 @@
 -- The order's test of a word in plain numbers, the first good word among the next B, and that `first_good` finds exactly that one.
 use Rattle.std.specs.Prelude.{ℕ, ◌*◌, ◌%◌, ◌^◌, ◌≤◌, ◌<◌}
-use Rattle.words.specs.Draw.{Words, good, at}
+use Rattle.words.specs.Draw.{Words}
 
 -- "[its] product with r leaves at least 2^32 mod r when divided by 2^32" (the order, demand 3);
 abbrev pub Passes : ℕ → ℕ → Type 0

@@ -1,6 +1,6 @@
 -- Exactly one outcome of draws below each bound of a list: said as a relation in the order's words, they come to `draws` and nothing else.
 use Rattle.std.specs.Prelude.{List, [], ◌∷◌, ℕ, ◌+◌, ◌-◌}
-use Rattle.words.specs.Draw.{Words, after, quotient, Drawn, all, short, draws}
+use Rattle.words.specs.Draw.{Words, after, quotient, Drawn, all, short}
 use Rattle.words.specs.GoodWord.{FirstGood, NoneGood}
 
 -- What draws below each bound of a list may come to: each is settled by the first good word of the sequence just past the word that

@@ -1,9 +1,9 @@
 -- The laws of rotations, once over the width.
-use Rattle.std.specs.Prelude.{◌≡◌, ℕ, ◌+◌, ◌-◌, ◌*◌, ◌/◌, ◌%◌, ◌^◌, ◌<◌, ◌≤◌, bit_or, refl}
+use Rattle.std.specs.Prelude.{◌≡◌, ℕ, ◌+◌, ◌-◌, ◌*◌, ◌/◌, ◌%◌, ◌^◌, ◌<◌, bit_or}
 use Rattle.std.proofs.Common.{add_comm, mul-one, mod-lt, mod-eq_of_lt, div-le_self, lt_of_le_of_lt, arith, pow_pos, shr_lt}
 use Rattle.std.proofs.Math.Nat.{mul-mod_left, div-eq_of_lt}
 use Rattle.std.proofs.lemmas.Nat.{or_lt, or_shifted, shl-shr, mod-pow-add}
-use Rattle.wrapping.specs.Rotate.{turn, rotate_left, rotate_right}
+use Rattle.wrapping.specs.Rotate.{turn, rotate_right}
 
 -- the part that is shifted up and the part that comes in below share no bit, so `|` joins them
 pub turned : (w x j k : ℕ) → j + k ≡ w → x < 2 ^ w → bit_or ((x * 2 ^ k) % 2 ^ w) (x / 2 ^ j) ≡ turn w x k

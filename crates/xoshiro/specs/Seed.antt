@@ -1,5 +1,5 @@
 -- Seeding (document 01, "xoshiro.rs"): four words of SplitMix64, as the authors advise; a seed number of 0 is replaced.
-use Rattle.std.specs.Prelude.{ℕ, ◌+◌, Bool, true, false, List, ◌==◌, bit_xor}
+use Rattle.std.specs.Prelude.{ℕ, Bool, true, false, List, ◌==◌, bit_xor}
 use Rattle.wrapping.specs.Bytes.{little}
 use Rattle.xoshiro.specs.declared.Xoshiro256PlusPlus.{Xoshiro256PlusPlus}
 use Rattle.xoshiro.specs.Generator.{parts}

@@ -1,7 +1,6 @@
 -- `xoshiro_words` meets its contract: the invariant is that i words are put.
 use borrow.Author.Rules.{rules}
 use mathlib.Core.Path.{◌≡◌}
-use Prim.Native.Nat.{◌-◌}
 use native.Mathlib.Omega.{arith}
 use lib.ListN.{length, length-set}
 use Rattle.ahead.specs.AheadLaws.{put_none, xoshiro_more}

@@ -1,7 +1,6 @@
 -- `pcg32_words` meets its contract. The loop's invariant: it has come i words far.
 use native.Mathlib.Omega.{arith}
 use mathlib.Core.Path.{◌≡◌}
-use Prim.Native.Nat.{◌-◌}
 use Rattle.bench_ffi.specs.Steps.{came_nowhere, came_further}
 use Rattle.pcg.specs.Pcg32.{stepped, word_of}
 use Rattle.bench_ffi.proofs.pcg32_calls.pcg32_words.Goals as goal

@@ -1,7 +1,6 @@
 -- `pcg64_words` meets its contract. The loop's invariant: it has come i words far.
 use native.Mathlib.Omega.{arith}
 use mathlib.Core.Path.{◌≡◌}
-use Prim.Native.Nat.{◌-◌}
 use Rattle.bench_ffi.specs.Steps.{came_nowhere, came_further}
 use Rattle.pcg.specs.Pcg64.{stepped, word_of}
 use Rattle.bench_ffi.proofs.pcg64_calls.pcg64_words.Goals as goal

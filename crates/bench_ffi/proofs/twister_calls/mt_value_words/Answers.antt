@@ -1,7 +1,6 @@
 -- `mt_value_words` meets its contract. The loop's invariant: it has come i words far.
 use native.Mathlib.Omega.{arith}
 use mathlib.Core.Path.{◌≡◌}
-use Prim.Native.Nat.{◌-◌}
 use Rattle.bench_ffi.specs.Loops.{twister_step, twister_word}
 use Rattle.bench_ffi.specs.Steps.{came_nowhere, came_further}
 use Rattle.bench_ffi.proofs.twister_calls.mt_value_words.Goals as goal

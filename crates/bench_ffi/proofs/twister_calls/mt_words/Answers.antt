@@ -1,7 +1,6 @@
 -- `mt_words` meets its contract. The loop's invariant: it has come i words far.
 use native.Mathlib.Omega.{arith}
 use mathlib.Core.Path.{◌≡◌, ap}
-use Prim.Native.Nat.{◌-◌}
 use Rattle.mersenne_twister.specs.Table.{held}
 use Rattle.mersenne_twister.specs.declared.Drawn32.{Drawn32}
 use Rattle.bench_ffi.specs.Loops.{twister_step, twister_word}

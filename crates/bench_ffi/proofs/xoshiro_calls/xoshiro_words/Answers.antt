@@ -1,7 +1,6 @@
 -- `xoshiro_words` meets its contract. The loop's invariant: it has come i words far.
 use native.Mathlib.Omega.{arith}
 use mathlib.Core.Path.{◌≡◌}
-use Prim.Native.Nat.{◌-◌}
 use Rattle.bench_ffi.specs.Steps.{came_nowhere, came_further}
 use Rattle.xoshiro.specs.Generator.{stepped, output}
 use Rattle.bench_ffi.proofs.xoshiro_calls.xoshiro_words.Goals as goal

@@ -1,5 +1,5 @@
 -- `draws_row` meets its contract. The loop's invariant: it has made i draws.
-use Rattle.std.proofs.Common.{◌≡◌, ◌-◌, arith}
+use Rattle.std.proofs.Common.{◌≡◌, arith}
 use Rattle.bench_lent.specs.RowsLaws.{row_begins, row_goes_on}
 use Rattle.bench_lent.proofs.lent_loops.draws_row.Goals as goal
 

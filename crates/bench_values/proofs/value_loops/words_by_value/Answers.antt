@@ -1,5 +1,5 @@
 -- `words_by_value` meets its contract. The loop's invariant: it has XORed i words.
-use Rattle.std.proofs.Common.{◌≡◌, ◌-◌, arith}
+use Rattle.std.proofs.Common.{◌≡◌, arith}
 use Rattle.random.specs.WordsLaws.{xored_none, xored_more}
 use Rattle.bench_values.proofs.value_loops.words_by_value.Goals as goal
 

@@ -1,7 +1,7 @@
 -- `draw_in` meets its contract: the invariant is `Trying`, and each way through the loop is one law of it.
 use mathlib.Core.Path.{sym}
 use mathlib.Core.Bool.{true≢false}
-use Prim.Native.Nat.{◌-◌, ◌<◌}
+use Prim.Native.Nat.{◌<◌}
 use native.Mathlib.Omega.{arith}
 use Rattle.words.proofs.BelowItsBound.{quotient_below}
 use Rattle.bounded.specs.Trying.{trying_start, trying_zero, trying_good, trying_bad, trying_out}

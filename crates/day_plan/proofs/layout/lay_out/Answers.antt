@@ -1,5 +1,4 @@
 -- `lay_out` meets its contract: the invariant is `LaidTo`.
-use Prim.Native.Nat.{◌-◌}
 use Rattle.day_plan.specs.DayLaws.{laid_start, laid_on, laid_done}
 use Rattle.day_plan.proofs.layout.lay_out.Goals as goal
 

@@ -1,6 +1,5 @@
 -- `put_few` meets its contract: after k of n bytes, what is left to write is the rest.
 use mathlib.Core.Path.{refl, sym, ◌∙◌}
-use Prim.Native.Nat.{◌-◌}
 use native.Mathlib.Omega.{arith}
 use lib.ListN.{length-set}
 use Rattle.filling.specs.PokeLaws.{poke_turn, poke_end, poke_start}

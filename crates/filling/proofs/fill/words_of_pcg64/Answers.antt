@@ -1,6 +1,5 @@
 -- `words_of_pcg64` meets its contract: each turn writes two words more, and one may be left after the last.
 use mathlib.Core.Path.{refl}
-use Prim.Native.Nat.{◌-◌}
 use native.Mathlib.Omega.{arith}
 use Rattle.filling.specs.FillLoop.{filling_start, filling_two, filling_last, filling_end}
 use Rattle.filling.proofs.fill.words_of_pcg64.Goals as goal

@@ -1,6 +1,5 @@
 -- `words_of_twister` meets its contract: each turn writes one word more.
 use mathlib.Core.Path.{ap}
-use Prim.Native.Nat.{◌-◌}
 use native.Mathlib.Omega.{arith}
 use Rattle.mersenne_twister.specs.declared.Drawn32.{Drawn32}
 use Rattle.filling.specs.FillLoop.{filling_start, filling_more, filling_end}

@@ -1,7 +1,6 @@
 -- `copy` meets its contract: after k turns the first k bytes are written.
 use borrow.Author.Rules.{rules}
 use mathlib.Core.Path.{◌≡◌, sym, ◌∙◌}
-use Prim.Native.Nat.{◌-◌}
 use native.Mathlib.Omega.{arith}
 use lib.ListN.{length}
 use Rattle.making.specs.Copying.{written_none, written_more, written_all}

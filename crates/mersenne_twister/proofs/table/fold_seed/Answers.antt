@@ -1,5 +1,5 @@
 -- `fold_seed` meets its contract. The invariant: the first k words are XORed.
-use Rattle.std.proofs.Common.{◌≡◌, ◌-◌, ◌∙◌, add-one, arith, rules}
+use Rattle.std.proofs.Common.{◌≡◌, ◌∙◌, add-one, arith, rules}
 use Rattle.mersenne_twister.specs.Table.{words_xored}
 use Rattle.mersenne_twister.proofs.table.fold_seed.Goals as goal
 

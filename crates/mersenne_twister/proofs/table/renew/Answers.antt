@@ -1,6 +1,6 @@
 -- `renew` meets its contract. The invariant: the first i entries are renewed, in place; of the second and the third loop, if they were
 -- where it began.
-use Rattle.std.proofs.Common.{◌≡◌, ◌-◌, ◌∙◌, arith, rules}
+use Rattle.std.proofs.Common.{◌≡◌, ◌∙◌, arith, rules}
 use Rattle.mersenne_twister.specs.Table.{renewed}
 use Rattle.mersenne_twister.specs.TableLaws.{renewed_more}
 use Rattle.mersenne_twister.proofs.table.renew.Goals as goal

@@ -1,5 +1,5 @@
 -- `seed_in` meets its contract. The invariant: the first i words of the seed are stored, and `word` is the next.
-use Rattle.std.proofs.Common.{◌≡◌, ◌-◌, ◌∙◌, add-one, arith, rules}
+use Rattle.std.proofs.Common.{◌≡◌, ◌∙◌, add-one, arith, rules}
 use Rattle.mersenne_twister.specs.Sequence.{seed_word}
 use Rattle.mersenne_twister.specs.Table.{stored}
 use Rattle.mersenne_twister.specs.TableLaws.{stored_more}

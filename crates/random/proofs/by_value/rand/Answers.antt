@@ -8,11 +8,10 @@ use mir.Syntax.{w32}
 use mir.Val.{Val, Fits}
 use Prim.Native.Nat.{ℕ, ◌^◌, ◌<◌}
 use Rattle.random.specs.Promises.{RandPromise}
-use Rattle.random.specs.SizedParts.{SizedSmall, Sized, StaysSized, rand_sized}
+use Rattle.random.specs.SizedParts.{SizedSmall, Sized, rand_sized}
 use Rattle.random.specs.declared.backend.Backend.{Backend}
 use Rattle.random.specs.declared.backend.Backend.TheVariants.{Xoshiro256PlusPlus, MersenneTwister, Pcg32, Pcg64}
 use Rattle.random.specs.declared.backend.Random.{Random}
-use Rattle.random.specs.declared.by_value.Word32.{Word32}
 use Rattle.random.specs.contracts.backend.Backend as backend
 use Rattle.random.specs.contracts.backend.Random as generator
 use Rattle.random.proofs.by_value.rand.Goals as goal

@@ -1,7 +1,6 @@
 -- `pseudo_in` meets its contract. The loop's invariant: it has XORed n words.
 use native.Mathlib.Omega.{arith}
 use mathlib.Core.Path.{◌≡◌}
-use Prim.Native.Nat.{◌-◌}
 use Rattle.random.specs.Generator.{pseudo_of}
 use Rattle.random.specs.Lent.{joined_with, joined_word}
 use Rattle.random.specs.WordsLaws.{xored_none, xored_more}

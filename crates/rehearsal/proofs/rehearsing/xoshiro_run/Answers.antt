@@ -1,9 +1,7 @@
 -- `xoshiro_run` meets its contract: the invariant is that the draws stand after `used` words where the code says.
 use mathlib.Core.Logic.{inl, inr}
 use mathlib.Core.Path.{sym, ◌∙◌}
-use Prim.Native.Nat.{◌-◌}
 use native.Mathlib.Omega.{arith}
-use Rattle.random.specs.declared.backend.Backend.TheVariants as kinds
 use Rattle.rehearsal.specs.Kinds.{xoshiro_next}
 use Rattle.rehearsal.specs.Standing.{looking_start, looking_on, standing_all, standing_short}
 use Rattle.rehearsal.proofs.rehearsing.xoshiro_run.Goals as goal

@@ -1,7 +1,7 @@
 -- `settle` meets its contract: the invariant is `Settling`, and each way through the loop is one law of it.
 use borrow.Author.Rules.{rules}
 use mathlib.Core.Path.{◌≡◌, sym, ◌∙◌}
-use Prim.Native.Nat.{◌-◌, ◌<◌}
+use Prim.Native.Nat.{◌<◌}
 use native.Mathlib.Omega.{arith}
 use lib.ListN.{length}
 use Rattle.rehearsal.specs.Settling.{settling_start, settling_few, settling_length}

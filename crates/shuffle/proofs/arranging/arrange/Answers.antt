@@ -1,5 +1,4 @@
 -- `arrange` meets its contract: the invariant is `Arranging`.
-use Prim.Native.Nat.{◌-◌}
 use native.Mathlib.Omega.{arith}
 use Rattle.shuffle.specs.SwapLaws.{arranging_start, arranging_on, arranging_length, arranging_done}
 use Rattle.shuffle.proofs.arranging.arrange.Goals as goal

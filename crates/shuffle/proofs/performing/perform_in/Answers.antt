@@ -1,7 +1,7 @@
 -- `perform_in` meets its contract: the invariant is `Performing`, with a block of its length.
 use borrow.Author.Rules.{rules}
 use mathlib.Core.Path.{refl, sym}
-use Prim.Native.Nat.{◌-◌, ◌<◌}
+use Prim.Native.Nat.{◌<◌}
 use native.Mathlib.Omega.{arith}
 use lib.ListN.{length}
 use Rattle.rehearsal.specs.TurnLaws.{turn_takes}

@@ -1,5 +1,5 @@
 -- `jump` meets its contract. The loop's invariant: after i turns the jump has come as far as `jumping i`.
-use Rattle.std.proofs.Common.{◌≡◌, ◌-◌, refl, ◌∙◌, add-one, arith}
+use Rattle.std.proofs.Common.{◌≡◌, refl, ◌∙◌, add-one, arith}
 use Rattle.xoshiro.specs.Jump.{jumping, jumped}
 use Rattle.xoshiro.proofs.Xoshiro256PlusPlus.jump.Goals as goal
 
