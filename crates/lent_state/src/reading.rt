@@ -75,6 +75,7 @@ fn engine_in(state: &[u64; 6]) -> Engine
 }
 
 // The refusal of a kind above 3.
+#[tactic(auto, unfolding(crate::specs::State::kind_refusal))]
 fn kind_refusal(kind: u64) -> u32
     ensures { result ≡ kind_refusal kind }
 {

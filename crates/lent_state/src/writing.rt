@@ -50,6 +50,7 @@ pub fn write(e: Engine, state: &mut [u64; 6])
 }
 
 // An engine where the call is answered; where it is refused nothing changes.
+#[tactic(auto, unfolding(crate::specs::State::state_after))]
 pub fn settle(refused: u32, e: Engine, state: &mut [u64; 6])
     ensures { LentSettlePromise refused e state.old state.new }
 {

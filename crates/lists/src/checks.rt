@@ -3,6 +3,7 @@ ghost use Rattle.std.specs.Prelude.{◌≡◌};
 ghost use Rattle.lists.specs.Checks.{list_refusal, window_refusal, first_of};
 
 // A list of n entries: only its length is looked at.
+#[tactic(auto, unfolding(crate::specs::Checks::list_refusal))]
 pub(crate) fn list_refusal(n: usize) -> u32
     ensures { result ≡ list_refusal n }
 {

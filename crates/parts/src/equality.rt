@@ -59,6 +59,7 @@ fn same_backend(x: Backend, y: Backend) -> bool
 }
 
 // Whether two tables are the same to a backend: the twister's are compared, and no other kind has one.
+#[tactic(auto, using(crate::specs::OwnPartsLaws::table_by, crate::specs::Decides::decides_yes))]
 fn same_tables(backend: Backend, mt: &[u32; 624], other: &[u32; 624]) -> bool
     ensures { Decides result (table_part backend mt.now ≡ table_part backend other.now) }
 {

@@ -103,3 +103,8 @@ raw_answers {w = w} {budget = budget} e m m' some d p =
     let next : joined_with w.next m' ≡ later 1 g = ap (λ (x : Word32). x.next) d ∙ ap step (sym (later_none g)) ∙ sym (later_one 0 g) in
     let word : words_of g 0 ≡ w.word = sym (word_at 0 g) ∙ ap word_of (later_none g) ∙ sym (ap (λ (x : Word32). x.word) d) in
     accepting_answers w.next m' g p (raw_word (words_of g) budget some ∙ ap (λ (v : ℕ). gives v 1) word) next
+
+-- no room between the ends: answered with 0, from no word
+pub span_answers : {a : EngineAnswer} (last budget : ℕ) (e : Engine) (m : List ℕ) → a ≡ accepting 0 0 e → last ≡ 0
+    → AnswersIn e m (λ s. span_by s last budget) a m
+span_answers last budget e m p z = accepting_answers e m (joined_with e m) p (span_none _ _ _ z) (sym (later_none (joined_with e m)))

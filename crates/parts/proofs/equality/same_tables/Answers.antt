@@ -1,13 +1,8 @@
 -- `same_tables` meets its contract: the twister's own table is the whole table, and another kind's is none.
 use mathlib.Core.Path.{◌∙◌, sym}
-use Rattle.parts.specs.Decides.{decides_yes, decides_by}
-use Rattle.parts.specs.OwnPartsLaws.{table_by, twister_by}
+use Rattle.parts.specs.Decides.{decides_by}
+use Rattle.parts.specs.OwnPartsLaws.{twister_by}
 use Rattle.parts.proofs.equality.same_tables.Goals as goal
-
-pub returns-then-kind-ne1 : goal.returns-then-kind-ne1
-returns-then-kind-ne1 c =
-    let a = c.args in
-    decides_yes (table_by a.backend a.mt.now a.other.now (λ twister. c.if-kind-ne1.true (c.kind.ensures ∙ twister)))
 
 pub returns : goal.returns
 returns c =

@@ -1,17 +1,9 @@
 -- `spanned_in` meets its contract.
 use mathlib.Core.Path.{sym, ◌∙◌, ap}
 use native.Mathlib.Omega.{arith}
-use Rattle.random.specs.GeneratorLaws.{later_none}
 use Rattle.bounded.specs.Answers.{answer_from}
-use Rattle.bounded.specs.AnswerLaws.{accepting_answers}
-use Rattle.spans.specs.SpanLaws.{span_none, span_whole, span_part}
+use Rattle.spans.specs.SpanLaws.{span_whole, span_part}
 use Rattle.spans.proofs.span.spanned_in.Goals as goal
-
-pub returns-then-last-eq0 : goal.returns-then-last-eq0
-returns-then-last-eq0 c = record {
-  answer = accepting_answers _ _ _ c.accept_in.ensures (span_none _ _ _ c.if-last-eq0.true) (sym (later_none _));
-  small = λ z. rw c.accept_in.ensures (omega arith);
-}
 
 pub returns-then-last-eq4294967295 : goal.returns-then-last-eq4294967295
 returns-then-last-eq4294967295 c =
