@@ -1,4 +1,4 @@
--- PCG-XSH-RR-64/32 of O'Neill's paper: 64 bits of state, words of 32 bits. `x >> k` is x / 2 ^ k and `x ^ y` is bitXor x y.
+-- PCG-XSH-RR-64/32 of O'Neill's paper: 64 bits of state, words of 32 bits. `x >> k` is x / 2 ^ k and `x ^ y` is bit_xor x y.
 use Rattle.std.specs.Prelude.{ℕ, ◌+◌, ◌*◌, ◌/◌, ◌%◌, ◌^◌, List, bit_xor}
 use Rattle.wrapping.specs.Bytes.{little}
 use Rattle.wrapping.specs.Rotate.{rotate_right}

@@ -1,5 +1,5 @@
 -- What a caller cites that has signed numbers of 32 bits: its facts speak of x as `read x`, what the machine reads back of x's bits,
--- and these laws tell the same of x itself. `f` and `g` are `c.fits.min` and `c.fits.max`.
+-- and these laws tell the same of x itself. `f` and `g` are `c.ranges.min` and `c.ranges.max`.
 use Rattle.std.specs.Prelude.{◌≡◌, Bool, ℕ, ◌^◌, ◌<◌, ℤ}
 use Rattle.std.specs.Int.Signed.{mag, lt_z}
 use Rattle.std.specs.Int.{Width, w32}
@@ -11,7 +11,7 @@ use Rattle.signed.specs.Signed.{gap}
 abbrev pub read : ℤ → ℤ
 read z = to_z w32 (of_z w32 z)
 
--- a parameter, by `c.fits`, and a call's result, by its `.ok`
+-- a parameter, by `c.ranges`, and a call's result, by its `.type_inv`
 pub arg_read : {x : ℤ} → SFits w32 x → read x ≡ x
 arg_read {x} f = to_z-of_z w32 x f
 

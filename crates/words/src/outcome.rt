@@ -34,7 +34,7 @@ pub fn gives(value: u32, used: u32) -> Outcome
 }
 
 // An outcome with n added to its value, modulo 2^32; a refusal stays as it is.
-#[tactic(auto, using(crate::specs::OutcomeLaws::mapped_answered, crate::specs::OutcomeLaws::mapped_refused), unfolding(crate::specs::Outcomes::raised_modulo))]
+#[tactic(auto, unfolding(crate::specs::Outcomes::raised_modulo, crate::specs::Outcomes::mapped, crate::specs::Outcomes::worked_on))]
 pub fn raised(n: u32, o: Outcome) -> Outcome
     ensures { RaisedPromise n o result }
 {

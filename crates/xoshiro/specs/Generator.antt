@@ -1,5 +1,5 @@
 -- xoshiro256++ 1.0, from Blackman and Vigna's xoshiro256plusplus.c (2019), over natural numbers: `x << k` of 64 bits is
--- (x * 2 ^ k) % 2 ^ 64, `x ^ y` is bitXor x y, and sums are taken modulo 2 ^ 64.
+-- (x * 2 ^ k) % 2 ^ 64, `x ^ y` is bit_xor x y, and sums are taken modulo 2 ^ 64.
 use Rattle.std.specs.Prelude.{ℕ, ◌+◌, ◌*◌, ◌/◌, ◌%◌, ◌^◌, bit_xor}
 use Rattle.wrapping.specs.Rotate.{rotate_left}
 use Rattle.xoshiro.specs.declared.Xoshiro256PlusPlus.{Xoshiro256PlusPlus}

@@ -1,4 +1,4 @@
--- SplitMix64, from Vigna's splitmix64.c (2015), over natural numbers: `x >> k` is x / 2 ^ k, `x ^ y` is bitXor x y, and sums and
+-- SplitMix64, from Vigna's splitmix64.c (2015), over natural numbers: `x >> k` is x / 2 ^ k, `x ^ y` is bit_xor x y, and sums and
 -- products are taken modulo 2 ^ 64.
 use Rattle.std.specs.Prelude.{ℕ, ◌+◌, ◌*◌, ◌/◌, ◌%◌, ◌^◌, bit_xor}
 
