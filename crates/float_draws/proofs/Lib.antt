@@ -1,2 +1,3 @@
+-- What a lent draw of a float and its by-value form have in common, and the values of floats drawn.
 pub mod Laws
 pub mod Values

@@ -1,5 +1,5 @@
 // `uniform`: a number of an interval, or the refusal's number, with the next generator beside it.
-ghost use Rattle.float_draws.specs.Promises.{UniformInPromise, UniformPromise};
+ghost use Rattle.float_draws.specs.Promises.{NeverMinusZero, UniformInPromise, UniformPromise};
 
 use floats::{Interval, Uniform};
 use random::{Engine, Random, engine_of, with_table};
@@ -38,7 +38,8 @@ pub fn uniform_in(e: Engine, mt: &mut [u32; 624], i: Interval) -> EngineSpread
 
 // The same by value.
 pub fn uniform(g: Random, i: Interval) -> Spread
-    ensures { UniformPromise g i result }
+    ensures answer { UniformPromise g i result }
+    ensures never_minus_zero { NeverMinusZero result.answer }
 {
     let mut moved = g;
     let d = uniform_in(engine_of(g), &mut moved.twister.mt, i);

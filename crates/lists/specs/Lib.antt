@@ -17,5 +17,3 @@ pub mod SlicingLaws
 -- The contracts by name, and that each leaves one answer.
 pub mod Promises
 pub mod PromisesLaws
-
--- Where the place or the start of an answered call lies, of every generator.

@@ -1,1 +1,2 @@
+-- What a draw comes to where the table was twisted.
 pub mod DrawFacts

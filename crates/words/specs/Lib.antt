@@ -7,13 +7,13 @@ pub mod Outcomes
 -- The test of a word in plain numbers, and the search for the first that passes it.
 pub mod FirstPlace
 pub mod GoodWord
--- The order's demand 3, of one draw
+-- What the order's demand 3 speaks of (its laws stand in proofs/): the outcomes of one draw,
 pub mod OneOutcome
--- and of draws one after the other under one budget,
+-- those of draws one after the other under one budget,
 pub mod OneOutcomeOfDraws
 pub mod DrawAfterDraw
 pub mod EachInTurn
--- of both as the budget grows, as the words beyond it differ, and of their values.
+-- and words of 32 bits.
 pub mod BelowItsBound
 -- Every value has its share of all words.
 pub mod Count
