@@ -14,4 +14,5 @@ abbrev pub bench_table : List Row
 bench_table = below.bench ++ (span_bench ++ (shuffled.bench ++ (float_bench ++ fill_bench)))
 
 pub bench_table_holds : Holds bench_table
-bench_table_holds = join below_laws.bench_holds (join span_bench_holds (join shuffled.bench_holds (join float_bench_holds fill_bench_holds)))
+bench_table_holds =
+    join below_laws.bench_holds (join span_bench_holds (join shuffled.bench_holds (join float_bench_holds fill_bench_holds)))

@@ -108,7 +108,8 @@ module _ (s : Words) (budget : ℕ) where
       only_if (out_of_budget_lem f) e = f
 
   -- a small letter: 97 is "a" and 122 "z"
-  pub char_between : WordSized s → (char_by s budget).refusal ≡ answered → (97 ≤ (char_by s budget).value) × ((char_by s budget).value ≤ 122)
+  pub char_between : WordSized s → (char_by s budget).refusal ≡ answered
+      → (97 ≤ (char_by s budget).value) × ((char_by s budget).value ≤ 122)
   char_between sized = go char_is
     where
       go : {o : Outcome} → Raised s 97 26 budget o → o.refusal ≡ answered → (97 ≤ o.value) × (o.value ≤ 122)

@@ -1,6 +1,7 @@
 -- The laws of a day laid out, and of the plan by its cases, for code that works them out.
 use Rattle.std.specs.Prelude.{◌≡◌, refl, List, ◌++◌, ℕ, zero, suc, ◌+◌, ◌-◌, ◌≤◌, ◌<◌, min, set, replicate}
-use Rattle.std.proofs.Common.{sym, ◌∙◌, ap, lt_of_not-le, eq-eqb, ne_eqb, length-append, length-set, get_or-append-add, get_or-set_same, get_or-set_other, ext_get_or}
+use Rattle.std.proofs.Common.{sym, ◌∙◌, ap, lt_of_not-le, eq-eqb, ne_eqb, length-append, length-set, get_or-append-add, get_or-set_same}
+use Rattle.std.proofs.Common.{get_or-set_other, ext_get_or}
 use Rattle.std.proofs.Math.Decide.{dec_le}
 use native.Mathlib.Omega.{arith}
 use Rattle.std.proofs.Math.ListN.{length, get_or, length-replicate, get_or-replicate, get_or-append}

@@ -108,7 +108,8 @@ module _ (i : Interval) where
   unfolding interval_refusal
   not_finite_iff = (λ h. there (of_not_finite (ends_are_finite i) (is_out_of_order i) (finite (width i)) h), back)
     where
-      there : (ends_are_finite i ≡ false) ⊎ ((ends_are_finite i ≡ true) × (is_out_of_order i ≡ false) × (finite (width i) ≡ false)) → OutOfRange i
+      there : (ends_are_finite i ≡ false) ⊎ ((ends_are_finite i ≡ true) × (is_out_of_order i ≡ false) × (finite (width i) ≡ false))
+          → OutOfRange i
       there (inl h) = elim (either (finite i.low) (finite i.high) h) [
         | inl p ↦ inl (not_finite_lem i.low p)
         | inr p ↦ inr (inl (not_finite_lem i.high p))

@@ -1,7 +1,8 @@
 -- The whole number closest to a / b, as the kit picks it, is the nearest, and at a tie the even one: w is the whole part, r the rest, and o
 -- says how twice the rest compares with b.
 use Rattle.std.specs.Prelude.{not, ◌⊎◌, ◌≡◌, T, eqb}
-use Rattle.std.proofs.Common.{inl, inr, ⊎_elim, sym, subst, le_trans, le_of_eq, lt_of_not-le, mul-le-mul_right, div-add-mod', mod-lt, arith, leb→le, eqb→eq}
+use Rattle.std.proofs.Common.{inl, inr, ⊎_elim, sym, subst, le_trans, le_of_eq, lt_of_not-le, mul-le-mul_right, div-add-mod', mod-lt, arith}
+use Rattle.std.proofs.Common.{leb→le, eqb→eq}
 use Prim.Native.Nat.{ℕ, suc, ◌+◌, ◌*◌, ◌/◌, ◌%◌, ◌≤◌, ◌<◌, compare, Ordering}
 use Rattle.std.proofs.Math.Nat.{eq_of_mul-eq-mul_right}
 use Rattle.std.proofs.Math.Decide.{dec_le}
@@ -21,7 +22,8 @@ Compared Ordering.gt a b = b < a
 compared : (a b : ℕ) → Compared (compare a b) a b
 compared a b = go (compare a b) (leb→le a b) (nleb→lt a b) (eqb→eq a b) (λ (e : a ≡ b). subst (λ (x : ℕ). T (eqb a x)) e (eqb_refl a))
   where
-    go : (o : Ordering) → (T (is_le o) → a ≤ b) → (T (not (is_le o)) → b < a) → (T (compare_is_eq o) → a ≡ b) → (a ≡ b → T (compare_is_eq o)) → Compared o a b
+    go : (o : Ordering) → (T (is_le o) → a ≤ b) → (T (not (is_le o)) → b < a)
+        → (T (compare_is_eq o) → a ≡ b) → (a ≡ b → T (compare_is_eq o)) → Compared o a b
     go Ordering.lt h k e n = lt_of_le-ne (h tt) n
     go Ordering.eq h k e n = e tt
     go Ordering.gt h k e n = k tt

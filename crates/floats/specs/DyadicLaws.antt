@@ -1,6 +1,8 @@
 -- `dyadic n k` is the float that is n / 2 ^ k, in any format (`dyadic_exact`): it has that value, and the format holds it.
 use Rattle.std.specs.Prelude.{◌≡◌, refl, ◌⊎◌, ℕ, zero, suc, ◌*◌, ◌/◌, ◌%◌, ◌^◌, ◌≤◌, ◌<◌, Bool, false, ◌&&◌, negsuc, T, ltb, leb, eqb}
-use Rattle.std.proofs.Common.{sym, ap, ◌∙◌, inl, inr, ⊎_elim, le_of_lt, lt_of_lt_of_le, lt_of_le_of_lt, zero-lt-suc, mul-one, one-mul, mul_comm, mul_assoc, eq-zero-or-pos, mul-le-mul_right, div-lt_iff_lt-mul, pow-suc, arith, eq-eqb, ne_eqb, lt→ltb, le→leb, pow_pos, pow_mono}
+use Rattle.std.proofs.Common.{sym, ap, ◌∙◌, inl, inr, ⊎_elim, le_of_lt, lt_of_lt_of_le, lt_of_le_of_lt, zero-lt-suc, mul-one, one-mul}
+use Rattle.std.proofs.Common.{mul_comm, mul_assoc, eq-zero-or-pos, mul-le-mul_right, div-lt_iff_lt-mul, pow-suc, arith, eq-eqb, ne_eqb}
+use Rattle.std.proofs.Common.{lt→ltb, le→leb, pow_pos, pow_mono}
 use Rattle.std.specs.Float.{fin, Format}
 use Rattle.std.specs.Float.Ieee.{prec, emax, low, fits}
 use Rattle.std.specs.Float.Ieee.Exact.{HasValue}

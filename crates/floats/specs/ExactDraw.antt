@@ -1,7 +1,8 @@
 -- The draw as the code makes it, in any format: a whole number n, cast to a float and multiplied by 2 ^ -(k + 1), is `dyadic n (k + 1)`,
 -- with nothing rounded on the way (`cast_exact`, `exact_draw`).
 use Rattle.std.specs.Prelude.{◌≡◌, ℕ, suc, ◌+◌, ◌-◌, ◌*◌, ◌^◌, ◌≤◌, ◌<◌, true, false, pos, negsuc, T, Float}
-use Rattle.std.proofs.Common.{sym, ap, ◌∙◌, le_of_lt, lt_of_lt_of_le, mul_assoc, mul-pos, arith, true≢false, le→leb, pow-add, pow_pos, pow_mono, shl_lt}
+use Rattle.std.proofs.Common.{sym, ap, ◌∙◌, le_of_lt, lt_of_lt_of_le, mul_assoc, mul-pos, arith, true≢false, le→leb, pow-add, pow_pos}
+use Rattle.std.proofs.Common.{pow_mono, shl_lt}
 use Rattle.std.proofs.Math.Nat.{mul-mul-mul_comm}
 use Rattle.std.specs.Float.{nan, inf, fin, Format}
 use Rattle.std.specs.Float.Ieee.{prec, emax, low, up, down, round, mul, of_int, in_float}

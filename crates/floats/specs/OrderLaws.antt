@@ -1,7 +1,9 @@
 -- IEEE 754's comparisons, by the whole numbers: among finite floats `le y x` is the opposite of `lt x y`, and what the tests with 0
 -- and with 1 say.
-use Rattle.std.specs.Prelude.{◌≡◌, refl, ◌⊎◌, ℕ, zero, suc, ◌+◌, ◌*◌, ◌≤◌, ◌<◌, Bool, true, false, not, ◌&&◌, ◌||◌, ℤ, pos, T, ltb, leb, eqb, Float}
-use Rattle.std.proofs.Common.{sym, inl, inr, ⊎_elim, zero-le, add_comm, zero-lt-suc, le_of_lt, le_of_eq, eq-or-lt_of_le, eq-zero-or-pos, mul-one, one-mul, zero-mul, mul-pos, arith, lt-ltb, le-ltb, le-leb, eq-eqb, ne_eqb, ltb→lt, nltb→le}
+use Rattle.std.specs.Prelude.{◌≡◌, refl, ◌⊎◌, ℕ, zero, suc, ◌+◌, ◌*◌, ◌≤◌, ◌<◌, Bool, true, false, not, ◌&&◌, ◌||◌, ℤ, pos, T, ltb, leb}
+use Rattle.std.specs.Prelude.{eqb, Float}
+use Rattle.std.proofs.Common.{sym, inl, inr, ⊎_elim, zero-le, add_comm, zero-lt-suc, le_of_lt, le_of_eq, eq-or-lt_of_le, eq-zero-or-pos}
+use Rattle.std.proofs.Common.{mul-one, one-mul, zero-mul, mul-pos, arith, lt-ltb, le-ltb, le-leb, eq-eqb, ne_eqb, ltb→lt, nltb→le}
 use Rattle.std.proofs.Math.Bool.{and-false, or-not_self}
 use Rattle.std.proofs.lemmas.Bool.{false≢true, lt-leb}
 use Rattle.std.specs.Float.{nan, inf, fin}

@@ -1,7 +1,9 @@
 -- The fraction n / c as the kit rounds it, by the digits that it keeps (`kept`) and those that it drops (`drop`), is rounded to nearest,
 -- ties to even (`rounded`).
 use Rattle.std.specs.Prelude.{◌⊎◌, ◌≡◌}
-use Rattle.std.proofs.Common.{inl, inr, ⊎_elim, sym, ap, ◌∙◌, le_trans, le_of_eq, le_of_lt, lt_of_lt_of_le, lt_of_le_of_lt, lt_of_not-le, lt_irrefl, mul_comm, mul_assoc, mul-pos, mul-lt-mul_of_pos_right, le-div_iff_mul-le, eq-zero-or-pos, arith, pow-add, pow_pos, pow_mono}
+use Rattle.std.proofs.Common.{inl, inr, ⊎_elim, sym, ap, ◌∙◌, le_trans, le_of_eq, le_of_lt, lt_of_lt_of_le, lt_of_le_of_lt, lt_of_not-le}
+use Rattle.std.proofs.Common.{lt_irrefl, mul_comm, mul_assoc, mul-pos, mul-lt-mul_of_pos_right, le-div_iff_mul-le, eq-zero-or-pos, arith}
+use Rattle.std.proofs.Common.{pow-add, pow_pos, pow_mono}
 use Prim.Native.Nat.{ℕ, ◌+◌, ◌-◌, ◌*◌, ◌/◌, ◌%◌, ◌^◌, ◌≤◌, ◌<◌, zero-le, compare}
 use Rattle.std.proofs.Math.Nat.{div-div-eq-div-mul}
 use Rattle.std.proofs.Math.Decide.{dec_le}

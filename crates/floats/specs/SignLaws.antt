@@ -1,6 +1,7 @@
 -- Signs: what is rounded keeps its sign, and of numbers without a minus sign none comes into a product, or into the difference of a larger
 -- and a smaller float.
-use Rattle.std.specs.Prelude.{◌≡◌, refl, ℕ, zero, suc, ◌+◌, ◌-◌, ◌*◌, ◌/◌, ◌%◌, ◌^◌, Bool, true, false, not, cond, negsuc, T, ltb, eqb, Float}
+use Rattle.std.specs.Prelude.{◌≡◌, refl, ℕ, zero, suc, ◌+◌, ◌-◌, ◌*◌, ◌/◌, ◌%◌, ◌^◌, Bool, true, false, not, cond, negsuc, T, ltb, eqb}
+use Rattle.std.specs.Prelude.{Float}
 use Rattle.std.proofs.Common.{sym, ap, ◌∙◌, subst, le_of_lt, mul_comm, arith, le-ltb, ne_eqb, ltb→lt}
 use Rattle.std.proofs.lemmas.Bool.{false≢true}
 use Rattle.std.specs.Float.{nan, inf, fin, Format}

@@ -1,7 +1,9 @@
 -- A float of a format is a whole number of the format's smallest value, its unit; so two that differ are a unit apart at least, and of a
 -- unit or more rounding makes no 0.
 use Rattle.std.specs.Prelude.{◌≡◌, Bool, true, false, ◌&&◌, cond, ℤ, pos, negsuc, T, ltb, leb, eqb, Float}
-use Rattle.std.proofs.Common.{sym, ap, ◌∙◌, subst, le_trans, le_of_eq, lt_of_lt_of_le, lt_irrefl, not-le_of_lt, lt_of_not-le, zero-lt-suc, zero-mul, one-mul, mul_comm, mul_assoc, mul_left_comm, mul-pos, mul-le-mul_right, mul-lt-mul_of_pos_right, le-div_iff_mul-le, lt_of_mul-lt-mul_right, arith, leb→le, eqb→eq, pow-add, pow_pos}
+use Rattle.std.proofs.Common.{sym, ap, ◌∙◌, subst, le_trans, le_of_eq, lt_of_lt_of_le, lt_irrefl, not-le_of_lt, lt_of_not-le, zero-lt-suc}
+use Rattle.std.proofs.Common.{zero-mul, one-mul, mul_comm, mul_assoc, mul_left_comm, mul-pos, mul-le-mul_right, mul-lt-mul_of_pos_right}
+use Rattle.std.proofs.Common.{le-div_iff_mul-le, lt_of_mul-lt-mul_right, arith, leb→le, eqb→eq, pow-add, pow_pos}
 use Prim.Native.Nat.{ℕ, zero, suc, ◌+◌, ◌-◌, ◌*◌, ◌/◌, ◌%◌, ◌^◌, ◌≤◌, ◌<◌, suc-le-suc, compare}
 use Rattle.std.proofs.Math.Nat.{mul-sub, div-div-eq-div-mul}
 use Rattle.std.proofs.lemmas.Bool.{false≢true}

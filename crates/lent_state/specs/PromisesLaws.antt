@@ -8,7 +8,8 @@ use Rattle.random.specs.declared.backend.Random.{Random}
 use Rattle.random.specs.declared.engine.Engine.{Engine}
 use Rattle.lent_state.specs.declared.reading.Held.{Held}
 use Rattle.lent_state.specs.Promises.{PositionPromise, XoshiroInPromise, Pcg32InPromise, Pcg64InPromise, HeldInPromise}
-use Rattle.lent_state.specs.Promises.{PutSmallPromise, PutPositionPromise, WritePromise, LentSettlePromise, LentBeginPromise, LentPlacePromise}
+use Rattle.lent_state.specs.Promises.{PutSmallPromise, PutPositionPromise, WritePromise, LentSettlePromise, LentBeginPromise}
+use Rattle.lent_state.specs.Promises.{LentPlacePromise}
 use Rattle.lent_state.specs.AnswersLaws.{told_apart}
 
 module _ (s : List ℕ) where

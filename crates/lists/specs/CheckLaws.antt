@@ -179,7 +179,8 @@ module _ (n window : ℕ) where
   pub slice_window_exactly_if : (slice_refusal n window ≡ refusal.window) ↔ ((0 < n) × (n ≤ list_limit) × ((window ≡ 0) ⊎ (n < window)))
   slice_window_exactly_if = (only_if slice_is, λ h. slice_only (bad_window h.0 h.1 h.2))
     where
-      only_if : {number : ℕ} → OfSlice n window number → number ≡ refusal.window → (0 < n) × (n ≤ list_limit) × ((window ≡ 0) ⊎ (n < window))
+      only_if : {number : ℕ} → OfSlice n window number → number ≡ refusal.window
+          → (0 < n) × (n ≤ list_limit) × ((window ≡ 0) ⊎ (n < window))
       only_if (is_empty z) e = absurd (omega arith)
       only_if (too_long_lem h) e = absurd (omega arith)
       only_if (bad_window p h w) e = (p, h, w)

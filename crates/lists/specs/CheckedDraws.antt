@@ -59,7 +59,8 @@ module _ (number : ℕ) (s : Words) (r budget : ℕ) (pos : number ≡ answered 
   pub unless_only : {o : Outcome} → Unless number s r budget o → unless number (bounded_by s r budget) ≡ o
   unless_only (refuses h) = unless_refuses number (bounded_by s r budget) h
   unless_only (answers k z f) = unless_passed number (bounded_by s r budget) z ∙ bounded_only s r budget (one.answers k (pos z) f)
-  unless_only (out_of_budget_lem z f) = unless_passed number (bounded_by s r budget) z ∙ bounded_only s r budget (one.out_of_budget_lem (pos z) f)
+  unless_only (out_of_budget_lem z f) =
+      unless_passed number (bounded_by s r budget) z ∙ bounded_only s r budget (one.out_of_budget_lem (pos z) f)
 
   -- refused by the check,
   pub checked_exactly_if : (m : ℕ) → (m ≡ answered → ⊥) → (m ≡ out_of_budget → ⊥)

@@ -33,7 +33,8 @@ module _ (s : Words) (n window budget : ℕ) where
   a_start z = omega arith
 
   -- what the checks refuse, `rand_slice` does
-  by_checks : (m : ℕ) → (m ≡ answered → ⊥) → (m ≡ out_of_budget → ⊥) → ((slice_by s n window budget).refusal ≡ m) ↔ (slice_refusal n window ≡ m)
+  by_checks : (m : ℕ) → (m ≡ answered → ⊥) → (m ≡ out_of_budget → ⊥)
+      → ((slice_by s n window budget).refusal ≡ m) ↔ (slice_refusal n window ≡ m)
   unfolding slice_by
   by_checks = checked_exactly_if (slice_refusal n window) s (n - window + 1) budget a_start
 

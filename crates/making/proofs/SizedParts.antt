@@ -75,7 +75,8 @@ module _ (s : List ℕ) (bytes : AreBytes s) where
     where
       go : (a b c : Bool)
           → Sized (cond a (of_xoshiro (xoshiro_seed.seeded_bytes s))
-          (cond b (of_twister (table.seeded (table.folded s))) (cond c (of_pcg32 (pcg32.seeded_bytes s)) (of_pcg64 (pcg64.seeded_bytes s)))))
+          (cond b (of_twister (table.seeded (table.folded s)))
+          (cond c (of_pcg32 (pcg32.seeded_bytes s)) (of_pcg64 (pcg64.seeded_bytes s)))))
       go true b c = sized_xoshiro _ (xoshiro.sized_seeded (xoshiro_seed.xor_of_words s))
       go false true c = sized_twister _ (twister.sized_seeded (table.folded s) (twister.folded_lt s bytes))
       go false false true = sized_pcg32 _ (pcg_laws.sized_seeded32 (little 8 s 0) (low_bit_set (little 8 s 8)))
@@ -87,8 +88,8 @@ module _ (s : List ℕ) (bytes : AreBytes s) where
   sized_made kind = go (leb kind 3) (eqb (length s) (seed_length_of kind))
     where
       go : (known whole : Bool)
-          → Sized (cond known (cond whole (answered_making (of_kind kind s)) (refused_making refusal.seed_length)) (refused_making refusal.kind)
-          ).generator
+          → Sized (cond known (cond whole (answered_making (of_kind kind s)) (refused_making refusal.seed_length))
+          (refused_making refusal.kind)).generator
       go true true = sized_kind kind
       go true false = zero_generator_lem
       go false whole = zero_generator_lem

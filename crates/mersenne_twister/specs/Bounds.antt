@@ -1,7 +1,9 @@
 -- Words have 32 bits, and tables of such words stay so. `Words t` bounds every entry, also past the end, where `get_or` gives 0: so no law
 -- asks for a length.
-use Rattle.std.specs.Prelude.{◌≡◌, ℕ, zero, suc, ◌+◌, ◌*◌, ◌/◌, ◌%◌, ◌^◌, ◌<◌, ◌≤◌, List, length, ◌≢◌, bit_and, bit_xor, slice_index, slice_index_or, slice_set}
-use Rattle.std.proofs.Common.{⊎_elim, eq-zero-or-pos, eq-or-lt_of_le, lt_of_not-le, lt_of_le_of_lt, div-le_self, mod-lt, mod-eq_of_lt, arith, eq-eqb, ne_eqb, lit<, get_or-set_same, get_or-set_other}
+use Rattle.std.specs.Prelude.{◌≡◌, ℕ, zero, suc, ◌+◌, ◌*◌, ◌/◌, ◌%◌, ◌^◌, ◌<◌, ◌≤◌, List, length, ◌≢◌, bit_and, bit_xor, slice_index}
+use Rattle.std.specs.Prelude.{slice_index_or, slice_set}
+use Rattle.std.proofs.Common.{⊎_elim, eq-zero-or-pos, eq-or-lt_of_le, lt_of_not-le, lt_of_le_of_lt, div-le_self, mod-lt, mod-eq_of_lt}
+use Rattle.std.proofs.Common.{arith, eq-eqb, ne_eqb, lit<, get_or-set_same, get_or-set_other}
 use Rattle.std.proofs.Math.Decide.{dec_le}
 use Rattle.std.proofs.lemmas.Nat.{and_le_l, xor_lt}
 use Rattle.std.proofs.Math.ListN.{get_or-eq_default}

@@ -1,6 +1,7 @@
 -- The table gives the words of the paper's sequence: the k-th word from 624 words and any position is the tempering of the right term.
 use Rattle.std.specs.Prelude.{◌≡◌, ℕ, zero, suc, ◌+◌, ◌<◌, min, List, length, slice_index}
-use Rattle.std.proofs.Common.{sym, ap, ◌∙◌, zero-add, add_comm, add-suc, lt_of_not-le, le_of_lt, le_refl, add-one, one-add, add-one-le, arith}
+use Rattle.std.proofs.Common.{sym, ap, ◌∙◌, zero-add, add_comm, add-suc, lt_of_not-le, le_of_lt, le_refl, add-one, one-add, add-one-le}
+use Rattle.std.proofs.Common.{arith}
 use Rattle.std.proofs.Math.Decide.{dec_le}
 use Rattle.std.proofs.Math.Nat.{min-eq_left, min-eq_right}
 use Rattle.mersenne_twister.specs.declared.MersenneTwister.{MersenneTwister}

@@ -1,7 +1,8 @@
 -- The sequence of MT19937, as M. Matsumoto and T. Nishimura define it in "Mersenne Twister: A 623-Dimensionally Equidistributed Uniform
 -- Pseudo-Random Number Generator" (ACM TOMACS 8, 1998), section 2: a sequence of words, with no table and no position. A word of 32 bits is
 -- a number below 2 ^ 32, its bits are the number's, and A is the paper's matrix.
-use Rattle.std.specs.Prelude.{◌≡◌, ℕ, zero, suc, ◌+◌, ◌*◌, ◌/◌, ◌%◌, ◌^◌, ◌<◌, Bool, true, false, List, [], ◌∷◌, ◌++◌, drop, ◌==◌, bit_and, bit_xor, slice_index}
+use Rattle.std.specs.Prelude.{◌≡◌, ℕ, zero, suc, ◌+◌, ◌*◌, ◌/◌, ◌%◌, ◌^◌, ◌<◌, Bool, true, false, List, [], ◌∷◌, ◌++◌, drop, ◌==◌, bit_and}
+use Rattle.std.specs.Prelude.{bit_xor, slice_index}
 
 -- a where the test holds, and b otherwise
 abbrev pub pick : {A : Type 0} → Bool → A → A → A

@@ -1,6 +1,7 @@
 -- The recurrence has exactly one solution for each 624 words to start from: `sequence` is one, and there is no other.
 use Rattle.std.specs.Prelude.{◌≡◌, ℕ, zero, suc, ◌+◌, ◌-◌, ◌<◌, List, [], ◌∷◌, length, drop, slice_index, refl}
-use Rattle.std.proofs.Common.{sym, ap, ◌∙◌, lt_of_not-le, zero-add, add-zero, suc-add, add-suc, add_assoc, one-add, arith, length-append, length-drop, get_or-drop, ext_get_or}
+use Rattle.std.proofs.Common.{sym, ap, ◌∙◌, lt_of_not-le, zero-add, add-zero, suc-add, add-suc, add_assoc, one-add, arith, length-append}
+use Rattle.std.proofs.Common.{length-drop, get_or-drop, ext_get_or}
 use Rattle.std.proofs.Math.Decide.{dec_le}
 use Rattle.std.proofs.Math.ListN.{get_or-append}
 use Rattle.std.proofs.lemmas.List.{get_or_at}

@@ -67,7 +67,8 @@ module _ (t : List ℕ) (x : ℕ → ℕ) (len : length t ≡ 624) (s : StartsWi
 
   -- so what is written next, at entry n, is the term 624 places on
   next_term : (n : ℕ) → n < 624 → Holds n
-      → follow (slice_index (renewed n t) n) (slice_index (renewed n t) ((n + 1) % 624)) (slice_index (renewed n t) ((n + 397) % 624)) ≡ x (n + 624)
+      → follow (slice_index (renewed n t) n) (slice_index (renewed n t) ((n + 1) % 624)) (slice_index (renewed n t) ((n + 397) % 624))
+      ≡ x (n + 624)
   next_term n h holds =
       let at : n % 624 ≡ n = omega arith in
       let first : slice_index_or (renewed n t) n 0 ≡ x n = rw at at (holds n (omega arith) (omega arith)) in

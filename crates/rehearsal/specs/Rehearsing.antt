@@ -112,7 +112,8 @@ module _ (s : Words) (first : ℕ) (falls : Bool) (count budget : ℕ) where
       go : (m : ℕ) × Rehearsing s first falls count budget m × Ends m → values_after s first falls n ≡ vs
       go (m, h, end) = ⊎_elim (λ c. settled (rehearsing_done m h c)) (λ o. absurd (unsettled (rehearsing_out m h o.0 o.1))) end
         where
-          settled : draws s (bounds_from first falls count) budget ≡ all (values_after s first falls m) m → values_after s first falls n ≡ vs
+          settled : draws s (bounds_from first falls count) budget ≡ all (values_after s first falls m) m
+              → values_after s first falls n ≡ vs
           settled d =
               let words : n ≡ m = cc in
               let values : values_after s first falls m ≡ vs = cc in

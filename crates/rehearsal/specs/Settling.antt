@@ -1,6 +1,7 @@
 -- The loop over a list of words that settles draws: what holds after some of the words, with one law for each way through it.
 use Rattle.std.specs.Prelude.{◌≡◌, refl, Bool, true, false, List, ◌∷◌, ◌++◌, ℕ, suc, ◌+◌, ◌-◌, ◌≤◌, ◌<◌, length, get_or, set, drop}
-use Rattle.std.proofs.Common.{sym, ◌∙◌, ap, append_assoc, add-one, arith, length-append, length-drop, drop-cons, get_or-append-add, get_or-drop}
+use Rattle.std.proofs.Common.{sym, ◌∙◌, ap, append_assoc, add-one, arith, length-append, length-drop, drop-cons, get_or-append-add}
+use Rattle.std.proofs.Common.{get_or-drop}
 use Rattle.std.proofs.Math.Seq.{set-append_seam}
 use Rattle.words.specs.Draw.{listed, good, quotient}
 use Rattle.rehearsal.specs.Bounds.{bound_after}

@@ -49,7 +49,8 @@ settled_few_words {g} {r = r} {falls} {n} p =
 
 -- ---- what a turn builds of them
 
-part_length : (d : Draws) (t : Turn) (block : List ℕ) → length (take (words_taken d t (length block)) block) ≡ words_taken d t (length block)
+part_length : (d : Draws) (t : Turn) (block : List ℕ)
+    → length (take (words_taken d t (length block)) block) ≡ words_taken d t (length block)
 part_length d t block = length-take-le (words_taken d t (length block)) block (omega arith)
 
 -- The words that the block's first part takes, and the draws that they settle from the bound where they stand, are a turn.

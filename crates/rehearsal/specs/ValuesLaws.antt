@@ -15,7 +15,8 @@ module _ (s : Words) (first : ℕ) (falls : Bool) where
   values_none = refl
 
   -- One word more adds what it settles of the draw below the bound that is left.
-  pub values_one : (n : ℕ) → values_after s first falls (n + 1) ≡ values_after s first falls n ++ settled_by (bound_left s first falls n) (s n)
+  pub values_one : (n : ℕ) → values_after s first falls (n + 1)
+      ≡ values_after s first falls n ++ settled_by (bound_left s first falls n) (s n)
   unfolding values_after
   values_one n = rw add-one
 

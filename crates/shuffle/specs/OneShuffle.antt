@@ -34,7 +34,8 @@ pub data Outcomes (s : Words) (n budget : ℕ) : Outcome → Type 0 where
 module _ (s : Words) (n budget : ℕ) where
   -- What the shuffle tells is one of these,
   pub shuffle_is : Outcomes s n budget (shuffle_by s n budget)
-  shuffle_is = elim (dec_le n list_limit) [ yes h ↦ within h | no h ↦ let l = lt_of_not-le h in rw (shuffle_long s budget n l) (too_long_lem l) ]
+  shuffle_is =
+      elim (dec_le n list_limit) [ yes h ↦ within h | no h ↦ let l = lt_of_not-le h in rw (shuffle_long s budget n l) (too_long_lem l) ]
     where
       go : n ≤ list_limit → (d : Drawn) → places_drawn s n budget ≡ d → Outcomes s n budget (outcome_of (λ places. 0) d)
       go h (all places used) e = settled places used h e

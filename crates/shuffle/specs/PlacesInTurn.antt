@@ -35,7 +35,8 @@ module _ (s : Words) (n budget : ℕ) {places : List ℕ} {used : ℕ} (e : plac
     pub place_at_most : WordSized s → get_or places (n - 1 - i) 0 ≤ i
     place_at_most sized =
         let below =
-        (draws_below_lem s (bounds_from n true (n - 1)) budget sized e).below (n - 1 - i) (rw (bounds_length n true (n - 1)) (omega arith)) in
+        (draws_below_lem s (bounds_from n true (n - 1)) budget sized e).below (n - 1 - i)
+        (rw (bounds_length n true (n - 1)) (omega arith)) in
         omega (arith, below, bound_at n true (n - 1) (n - 1 - i) (omega arith))
 
 -- of every generator, since its words have 32 bits

@@ -107,7 +107,8 @@ module _ (s : Words) (min max budget : ℕ) where
       only_if (drawn h d) e = absurd (omega arith)
       only_if (short h d) e = absurd (omega arith)
 
-  pub uint_out_of_budget_exactly_if : ((uint_by s min max budget).refusal ≡ out_of_budget) ↔ ((min < max) × NoneGood s (max - min + 1) budget)
+  pub uint_out_of_budget_exactly_if :
+      ((uint_by s min max budget).refusal ≡ out_of_budget) ↔ ((min < max) × NoneGood s (max - min + 1) budget)
   uint_out_of_budget_exactly_if =
       (only_if uinted_is, λ h. ap (λ (o : Outcome). o.refusal) (uinted_only (none_in_budget h.0 h.1)))
     where
@@ -133,7 +134,8 @@ module _ (s : Words) (min max budget : ℕ) where
 -- which outcomes they may have: refused with 2, or a draw within the span counted from min, or refused with 8
 pub data Inted (s : Words) (min max : ℤ) (budget : ℕ) : IntOutcome → Type 0 where
   wrong_order : lt_z max min ≡ true → Inted s min max budget (int_refused order)
-  drawn : {v n : ℕ} → lt_z max min ≡ false → Spanned s (gap min max) budget (gives v n) → Inted s min max budget (int_gives (min +ℤ pos v) n)
+  drawn : {v n : ℕ} → lt_z max min ≡ false → Spanned s (gap min max) budget (gives v n)
+      → Inted s min max budget (int_gives (min +ℤ pos v) n)
   short : lt_z max min ≡ false → Spanned s (gap min max) budget (refused out_of_budget) → Inted s min max budget (int_refused out_of_budget)
 
 module _ (s : Words) (min max : ℤ) (budget : ℕ) where

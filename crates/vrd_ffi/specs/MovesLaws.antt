@@ -136,7 +136,8 @@ settles w r p sized e more =
     record { fine = fine; drawn = ap (λ (n : ℕ). n / 2 ^ 32) e; small = rw e (quotient_below r w pos sized) }
 
 -- where the generator was moved by a word that settles the draw,
-pub quick_hit : {s t : List ℕ} {r w q : ℕ} {s' : List ℕ} → kind_in s ≤ 3 → Moves32 s t w s' t → Settles w r q → q < 2 ^ 32 → Quick s t r q s'
+pub quick_hit : {s t : List ℕ} {r w q : ℕ} {s' : List ℕ} → kind_in s ≤ 3 → Moves32 s t w s' t → Settles w r q → q < 2 ^ 32
+    → Quick s t r q s'
 unfolding rand_of
 quick_hit {s} {t} {r} {w} {q} {s'} k m f z =
     let same : w ≡ word_of (generator_in s t) = ap (λ (x : Told ℕ). x.answer) m in

@@ -181,7 +181,8 @@ module _ {s t s' t' : List ℕ} where
       refusal_in x = x.answer.refusal
 
       shuffling : Random → Reply (Listed Number)
-      shuffling g = formed (λ (x : Number). listed x (shuffled (words_of g) list budget)) (drawn_by (λ w. shuffle_by w (length list) budget) g)
+      shuffling g = formed (λ (x : Number). listed x (shuffled (words_of g) list budget))
+          (drawn_by (λ w. shuffle_by w (length list) budget) g)
 
       own : Unmoved refusal_in shuffling g
       own = record { tells = refl; stays = (unmoved_draw (shuffle_budgeted (length list)) budget g).stays }

@@ -17,7 +17,8 @@ with_digit n byte = n * 10 + (byte - 48)
 -- the number n with these digits more
 unfoldable pub read_on : ℕ → List ℕ → Digits
 read_on n [] = record { valid = true; number = n }
-read_on n (byte ∷ rest) = cond (is_digit byte) (cond (nat_lt (with_digit n byte) (2 ^ 64)) (read_on (with_digit n byte) rest) no_number) no_number
+read_on n (byte ∷ rest) =
+    cond (is_digit byte) (cond (nat_lt (with_digit n byte) (2 ^ 64)) (read_on (with_digit n byte) rest) no_number) no_number
 
 unfoldable pub read_number : List ℕ → Digits
 read_number [] = no_number

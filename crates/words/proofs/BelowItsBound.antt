@@ -18,7 +18,8 @@ quotient_below r w pos h =
 pub first_below : {s : Words} {r budget k : ℕ} → WordSized s → FirstGood s r budget k → quotient r (s k) < r
 first_below {s} {r} {k = k} sized f = quotient_below r (s k) (passes_positive r (s k) f.passes) (sized k)
 
-pub bounded_below : (s : Words) (r budget : ℕ) → WordSized s → (bounded_by s r budget).refusal ≡ answered → (bounded_by s r budget).value < r
+pub bounded_below : (s : Words) (r budget : ℕ) → WordSized s → (bounded_by s r budget).refusal ≡ answered
+    → (bounded_by s r budget).value < r
 bounded_below s r budget sized a =
     let (k, f, e) = answer_is_first s r budget a in
     rw e (first_below sized f)

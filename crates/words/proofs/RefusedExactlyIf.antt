@@ -22,7 +22,8 @@ zero_range_exactly_if s r budget = (only_if (bounded_is s r budget), exactly (bo
     exactly (answers k h f) g = absurd (omega arith)
     exactly (out_of_budget_lem h f) g = absurd (omega arith)
 
-pub out_of_budget_exactly_if : (s : Words) (r budget : ℕ) → ((bounded_by s r budget).refusal ≡ out_of_budget) ↔ ((0 < r) × NoneGood s r budget)
+pub out_of_budget_exactly_if : (s : Words) (r budget : ℕ) →
+    ((bounded_by s r budget).refusal ≡ out_of_budget) ↔ ((0 < r) × NoneGood s r budget)
 out_of_budget_exactly_if s r budget = (only_if (bounded_is s r budget), exactly (bounded_is s r budget))
   where
     only_if : {o : Outcome} → Bounded s r budget o → o.refusal ≡ out_of_budget → (0 < r) × NoneGood s r budget

@@ -18,7 +18,8 @@ settled_more v n (all vs m) = omega arith
 settled_more v n (short m) = refl
 
 -- a first draw that is settled, in front of draws of which m are settled
-settled_first : {s : Words} {r : ℕ} (rs : List ℕ) {b k m : ℕ} → FirstGood s r b k → m ≤ settled_of (draws (after (k + 1) s) rs (b - (k + 1)))
+settled_first : {s : Words} {r : ℕ} (rs : List ℕ) {b k m : ℕ} → FirstGood s r b k
+    → m ≤ settled_of (draws (after (k + 1) s) rs (b - (k + 1)))
     → m + 1 ≤ settled_of (draws s (r ∷ rs) b)
 settled_first {s} {r} rs {b} f h =
     rw (draws_settled s r rs b f, settled_more) (omega arith)

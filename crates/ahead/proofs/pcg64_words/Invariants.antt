@@ -6,7 +6,9 @@ use Rattle.ahead.specs.Ahead.{Pcg64Put}
 use Rattle.ahead.proofs.pcg64_words.Given as goal
 
 abbrev pub invariant-loop-i : goal.invariant-loop-i
-invariant-loop-i l = (l.i ≤ length l.initial.list) × (length l.list ≡ length l.initial.list) × Pcg64Put l.initial.next l.i l.initial.list l.list l.next
+invariant-loop-i l =
+    (l.i ≤ length l.initial.list) × (length l.list ≡ length l.initial.list)
+    × Pcg64Put l.initial.next l.i l.initial.list l.list l.next
 
 abbrev pub decreases-loop-i : goal.decreases-loop-i
 decreases-loop-i l = length l.initial.list - l.i

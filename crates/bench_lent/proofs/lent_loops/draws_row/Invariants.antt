@@ -5,7 +5,10 @@ use Rattle.bench_lent.specs.Rows.{draws_row}
 use Rattle.bench_lent.proofs.lent_loops.draws_row.Given as goal
 
 abbrev pub invariant-loop-i : goal.invariant-loop-i
-invariant-loop-i l = (l.i ≤ l.n) × (record { sum = l.sum; used = l.used; next = joined_with l.next l.mt } ≡ draws_row l.r l.budget l.i (joined_with l.initial.next l.initial.mt))
+invariant-loop-i l =
+    (l.i ≤ l.n)
+    × (record { sum = l.sum; used = l.used; next = joined_with l.next l.mt }
+    ≡ draws_row l.r l.budget l.i (joined_with l.initial.next l.initial.mt))
 
 abbrev pub decreases-loop-i : goal.decreases-loop-i
 decreases-loop-i l = l.n - l.i

@@ -34,5 +34,6 @@ held g vs h = record { small = small g.backend _ h.1.1.0; beside = record { tabl
 pub returns : goal.returns
 returns c =
     let told = rw c.engine_of.ensures at c.next_u32-d.ensures in
-    let drawn : RandPromise c.args.g (record { word = c.next_u32-d.result.word; next = c.with_table-next.result }) = rw c.with_table-next.ensures told in
+    let drawn : RandPromise c.args.g (record { word = c.next_u32-d.result.word; next = c.with_table-next.result }) =
+    rw c.with_table-next.ensures told in
     record { answer = drawn; sized = rand_sized c.args.g drawn (held c.args.g _ c.well_formed.0) }

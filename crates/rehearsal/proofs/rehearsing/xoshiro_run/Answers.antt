@@ -27,7 +27,8 @@ loop-settled-smaller c = omega arith
 pub loop-settled-preserved : goal.loop-settled-preserved
 loop-settled-preserved c =
     let good = c.is_good.ensures in
-    λ t. looking_on (c.loop-settled.invariant t) c.loop-settled-test.true (omega (arith, c.if-d-used.false)) (xoshiro_next c.next_u32-w.ensures t)
+    λ t. looking_on (c.loop-settled.invariant t) c.loop-settled-test.true (omega (arith, c.if-d-used.false))
+    (xoshiro_next c.next_u32-w.ensures t)
     (elim c.if-is_good.branch [
       | then-is_good w ↦ inl (sym good ∙ w.if-is_good.true, w.settled-is, w.bound-is ∙ w.next_bound-bound.ensures)
       | else-is_good w ↦ inr (sym good ∙ w.if-is_good.false, w.settled-is, w.bound-is)

@@ -16,7 +16,8 @@ pub returns-then-second-lt-MISS : goal.returns-then-second-lt-MISS
 returns-then-second-lt-MISS c =
     let both = second_tried c.quick_first-first.ensures c.if-first-lt-MISS.false (c.quick_pcg-second.ensures _) in
     let tried = rw c.below_within-tried.ensures at both in
-    rw c.at_once-then-second-lt-MISS.ensures (range_drawn_by _ _ _ _ _ c.if-max-min.false (tried_drew _ _ _ _ _ tried c.if-second-lt-MISS.true))
+    rw c.at_once-then-second-lt-MISS.ensures
+    (range_drawn_by _ _ _ _ _ c.if-max-min.false (tried_drew _ _ _ _ _ tried c.if-second-lt-MISS.true))
 
 pub returns : goal.returns
 returns c =

@@ -24,10 +24,12 @@ pub returns-then-second-lt-MISS : goal.returns-then-second-lt-MISS
 returns-then-second-lt-MISS c =
     let both = second_tried c.quick_first-first.ensures c.if-first-lt-MISS.false (c.quick_pcg-second.ensures _) in
     let drawn = tried_alone _ _ _ _ (rw c.below_within-tried.ensures at both) c.if-second-lt-MISS.true in
-    rw c.at_once-then-second-lt-MISS.ensures (start_drawn _ _ _ _ _ c.if-n-gt-LIST_LIMIT.false (omega (arith, c.if-window-eq0.false)) c.if-window-n.false drawn)
+    rw c.at_once-then-second-lt-MISS.ensures
+    (start_drawn _ _ _ _ _ c.if-n-gt-LIST_LIMIT.false (omega (arith, c.if-window-eq0.false)) c.if-window-n.false drawn)
 
 pub returns : goal.returns
 returns c =
     let same = both_missed c.quick_first-first.ensures c.if-first-lt-MISS.false (c.quick_pcg-second.ensures _) c.if-second-lt-MISS.false in
     let drawn = rw same at c.by_library.ensures.draw in
-    rw c.number_of.ensures (start_drawn _ _ _ _ _ c.if-n-gt-LIST_LIMIT.false (omega (arith, c.if-window-eq0.false)) c.if-window-n.false drawn)
+    rw c.number_of.ensures
+    (start_drawn _ _ _ _ _ c.if-n-gt-LIST_LIMIT.false (omega (arith, c.if-window-eq0.false)) c.if-window-n.false drawn)

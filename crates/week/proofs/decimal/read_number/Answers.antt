@@ -20,7 +20,8 @@ returns-then-byte-gt57 c =
 
 pub returns-then-number-digit : goal.returns-then-number-digit
 returns-then-number-digit c =
-    c.no_number-then-number-digit.ensures ∙ reading_over c.loop-i.invariant c.loop-i-test.true c.if-byte-lt48.false c.if-byte-gt57.false (omega arith)
+    c.no_number-then-number-digit.ensures
+    ∙ reading_over c.loop-i.invariant c.loop-i-test.true c.if-byte-lt48.false c.if-byte-gt57.false (omega arith)
 
 pub loop-i-preserved : goal.loop-i-preserved
 loop-i-preserved c =
