@@ -1,13 +1,17 @@
 -- The laws of answers: what the code builds is the answer of an outcome.
-use Rattle.std.specs.Prelude.{◌≡◌, refl, Bool, true, false, List, ℕ, ◌+◌, ◌^◌, ◌<◌}
-use Rattle.std.proofs.Common.{sym, ◌∙◌, ap, arith}
+use Rattle.std.specs.Prelude.{◌≡◌, refl, Bool, true, List, ℕ, Option, Some, None, ◌+◌, ◌^◌, ◌<◌}
+use Rattle.std.proofs.Common.{sym, ◌∙◌, ap, subst, arith}
 use Rattle.words.specs.Refusal.{answered, zero_range, out_of_budget}
 use Rattle.words.specs.declared.outcome.Outcome.{Outcome}
+use Rattle.words.specs.declared.reply.Reply.{Reply}
+use Rattle.words.specs.Numbers.{numbered}
+use Rattle.words.specs.Promises.{RaisesPromise}
 use Rattle.words.specs.Draw.{good, quotient, refused, gives, bounded_by}
 use Rattle.words.specs.Outcomes.{raised, raised_modulo}
 use Rattle.words.specs.OutcomeLaws.{raised_used, raised_exact}
 use Rattle.words.proofs.GoodWord.{good_passes, passes_positive}
 use Rattle.words.proofs.BelowItsBound.{quotient_below}
+use Rattle.words.specs.DrawLoop.{Told}
 use Rattle.words.proofs.DrawLoop.{told_answers, told_refuses}
 use Rattle.words.specs.OneOutcome.{zero_range_lem}
 use Rattle.words.proofs.OneOutcome.{bounded_only}
@@ -20,8 +24,8 @@ use Rattle.random.specs.Lent.{joined_with, joined_word}
 use Rattle.bounded.specs.declared.answers.EngineAnswer.{EngineAnswer}
 use Rattle.bounded.specs.declared.draw.Tried.{Tried}
 use Rattle.bounded.specs.declared.answers.Answer.{Answer}
-use Rattle.bounded.specs.Answers.{answer_with, answer_from, answer_in, outcome_in, joined_answer, Below, refusing, accepting}
-use Rattle.bounded.specs.Trying.{TriedFrom, trying_start, trying_good}
+use Rattle.bounded.specs.Answers.{answer_with, answer_from, answer_in, outcome_in, joined_answer, Below, refusing, accepting, numbered_in}
+use Rattle.bounded.specs.Trying.{TriedFrom, found, value, trying_start, trying_good}
 
 -- ---- what the code builds
 
@@ -57,6 +61,13 @@ raised_answers {a} n g o h small told sum built =
     let exact = sum ∙ ap (raised_modulo n) told ∙ raised_exact n (outcome_in a) small in
     rw built (worked_answers answer_with (λ (x : Outcome). x.used) (raised n) g o h exact (raised_used n o))
 
+-- the same of the code's answers: the code adds it modulo 2^32
+pub raised_replies : (a b : Reply ℕ Engine) {t : List ℕ} (n : ℕ) (g : Random) (o : Outcome)
+    → joined_answer (numbered_in a) t ≡ answer_from g o → ((numbered a.told).refusal ≡ answered → n + (numbered a.told).value < 2 ^ 32)
+    → RaisesPromise n a b → joined_answer (numbered_in b) t ≡ answer_from g (raised n o)
+raised_replies a b n g o h small sum =
+    raised_answers n g o h small refl sum.0 (ap (answer_in (numbered b.told)) sum.1)
+
 -- ---- a draw below r over a lent table: what it owes, by its ways out
 
 -- the answer is that of the draw, and where there is one its value is below r
@@ -75,21 +86,22 @@ draws_zero {r = r} budget e m q z = (
 )
 
 -- a try that was settled is the answer,
-pub draws_found : {g : Random} {r budget : ℕ} {t : Tried} {h : Random} {a : EngineAnswer} (e : Engine) (m : List ℕ)
-    → TriedFrom g r budget t h → joined_with e m ≡ h → t.found ≡ true → (t.found ≡ true → t.value < r)
-    → a ≡ accepting t.value t.used e
+pub draws_found : {g : Random} {r budget v : ℕ} {t : Tried} {h : Random} {a : EngineAnswer} (e : Engine) (m : List ℕ)
+    → TriedFrom g r budget t h → joined_with e m ≡ h → t.value ≡ Some v → v < r → a ≡ accepting v t.used e
     → Draws g r budget a m
-draws_found {g} e m d same q small p = (
-  accepting_answers e m g p (told_answers d.told q) (same ∙ d.moved),
-  λ z. rw p (small q),
-)
+draws_found {g} {r} {budget} {v} {t} e m d same q small p =
+    let told : Told (words_of g) r budget true v t.used =
+    subst (λ (o : Option ℕ). Told (words_of g) r budget (found o) (value o) t.used) q d.told in (
+      accepting_answers e m g p (told_answers told refl) (same ∙ d.moved),
+      λ z. rw p small,
+    )
 
 -- and one that was not is the refusal, with the generator that came in.
 pub draws_short : {r budget : ℕ} {t : Tried} {h : Random} {a : EngineAnswer} (e : Engine) (m : List ℕ)
-    → TriedFrom (joined_with e m) r budget t h → 0 < r → t.found ≡ false → a ≡ refusing out_of_budget e
+    → TriedFrom (joined_with e m) r budget t h → 0 < r → t.value ≡ None → a ≡ refusing out_of_budget e
     → Draws (joined_with e m) r budget a m
 draws_short {r} e m d pos q p = (
-  refusing_answers e m p (told_refuses d.told pos q),
+  refusing_answers e m p (told_refuses d.told pos (ap found q)),
   no_value r out_of_budget (omega arith) p,
 )
 
@@ -100,4 +112,4 @@ pub draws_first : {r budget v : ℕ} {b : Bool} {w : EngineWord} {a : EngineAnsw
 draws_first {r} {w = w} e m m' some d sized g t q p =
     let pos = passes_positive r w.word (good_passes r w.word (sym g ∙ t)) in
     let tried = trying_good trying_start w.next some d g t q in
-    draws_found w.next m' tried refl refl (λ z. rw q (quotient_below r w.word pos sized)) p
+    draws_found w.next m' tried refl refl (rw q (quotient_below r w.word pos sized)) p

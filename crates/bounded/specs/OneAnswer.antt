@@ -1,7 +1,7 @@
 -- What every answer's promise fixes, whatever the outcome: the next generator is the old one after the words used, and two answers that
 -- meet one promise are the same, over a lent table the tables too.
-use Rattle.std.specs.Prelude.{◌≡◌, List, ℕ}
-use Rattle.std.proofs.Common.{ap}
+use Rattle.std.specs.Prelude.{◌≡◌, List, ℕ, Result}
+use Rattle.std.proofs.Common.{ap, ap₂}
 use Rattle.words.specs.declared.outcome.Outcome.{Outcome}
 use Rattle.random.specs.declared.backend.Random.{Random}
 use Rattle.random.specs.declared.engine.Engine.{Engine}
@@ -11,7 +11,11 @@ use Rattle.random.specs.Lent.{joined_with, engine_in, table_in}
 use Rattle.random.specs.LentLaws.{joined_apart}
 use Rattle.bounded.specs.declared.answers.Answer.{Answer}
 use Rattle.bounded.specs.declared.answers.EngineAnswer.{EngineAnswer}
-use Rattle.bounded.specs.Answers.{answer_from, joined_answer}
+use Rattle.words.specs.declared.refusal.Refusal.{Refusal}
+use Rattle.words.specs.declared.reply.Given.{Given}
+use Rattle.words.specs.declared.reply.Reply.{Reply}
+use Rattle.words.specs.NumbersLaws.{numbers_apart}
+use Rattle.bounded.specs.Answers.{answer_from, joined_answer, numbered_by, numbered_in}
 
 -- ---- by value
 
@@ -38,3 +42,17 @@ answer_apart h = (
 pub refused_unmoved_in : {a : EngineAnswer} {m' : List ℕ} (e : Engine) (m : List ℕ) (o : Outcome)
     → joined_answer a m' ≡ answer_from (joined_with e m) o → o.used ≡ 0 → (a.next ≡ e) × (m' ≡ m)
 refused_unmoved_in e m o p none = joined_apart (refused_unmoved (joined_with e m) o p none)
+
+-- ---- the code's answers: two that say the same in document 01's numbers are the same
+
+pub same_by : (a b : Reply ℕ Random) → numbered_by a ≡ numbered_by b → a ≡ b
+same_by a b h =
+    ap₂ (λ (g : Random) (t : Result (Given ℕ) Refusal). record { next = g; told = t }) (ap (λ (x : Answer). x.next) h)
+    (numbers_apart a.told b.told
+    (ap (λ (x : Answer). record { refusal = x.refusal; value = x.value; used = x.used }) h))
+
+pub same_in : (a b : Reply ℕ Engine) → numbered_in a ≡ numbered_in b → a ≡ b
+same_in a b h =
+    ap₂ (λ (e : Engine) (t : Result (Given ℕ) Refusal). record { next = e; told = t }) (ap (λ (x : EngineAnswer). x.next) h)
+    (numbers_apart a.told b.told
+    (ap (λ (x : EngineAnswer). record { refusal = x.refusal; value = x.value; used = x.used }) h))

@@ -1,8 +1,8 @@
 -- A draw below r from a generator, one word after the other: what a try tells, and the loop that makes it, with one law for each way
 -- through.
-use Rattle.std.specs.Prelude.{◌≡◌, Bool, true, false, ℕ, ◌+◌, ◌≤◌, ◌<◌}
+use Rattle.std.specs.Prelude.{◌≡◌, Bool, true, false, ℕ, Option, Some, None, ◌+◌, ◌≤◌, ◌<◌}
 use Rattle.std.proofs.Math.Path.{sym, ap}
-use Rattle.std.proofs.Common.{◌∙◌}
+use Rattle.std.proofs.Common.{◌∙◌, subst, arith}
 use Rattle.words.specs.Draw.{good, quotient}
 use Rattle.words.specs.DrawLoop.{Told, Searching}
 use Rattle.words.proofs.DrawLoop.{searching_start, searching_good, searching_bad, searching_out, told_zero}
@@ -13,19 +13,28 @@ use Rattle.random.specs.GeneratorLaws.{later_none, later_one, word_at}
 use Rattle.random.specs.declared.engine.Engine.{Engine}
 use Rattle.bounded.specs.declared.draw.Tried.{Tried}
 
+-- whether a word settled the draw, and its value, 0 where none did
+abbrev pub found : Option ℕ → Bool
+found (Some v) = true
+found None = false
+
+abbrev pub value : Option ℕ → ℕ
+value (Some v) = v
+value None = 0
+
 -- One try of a draw below r with a budget, from the generator g: t tells what it came to, and h is the generator after the words taken.
 -- They are taken up to the good word; where none is good all of the budget, and none for r = 0.
 pub record TriedFrom (g : Random) (r budget : ℕ) (t : Tried) (h : Random) : Type 0 where
-  pub told : Told (words_of g) r budget t.found t.value t.used
+  pub told : Told (words_of g) r budget (found t.value) (value t.value) t.used
   pub moved : h ≡ later t.used g
 
 -- a try that no word settled,
 abbrev pub untried : ℕ → Engine → Tried
-untried n e = record { found = false; value = 0; used = n; next = e }
+untried n e = record { next = e; value = None; used = n }
 
 -- and one that the last word did
 abbrev pub settled_at : ℕ → ℕ → Engine → Tried
-settled_at v n e = record { found = true; value = v; used = n; next = e }
+settled_at v n e = record { next = e; value = Some v; used = n }
 
 -- The loop after `used` words, none of them good: cur is the generator there.
 pub record Trying (g : Random) (r budget used : ℕ) (cur : Random) : Type 0 where
@@ -60,5 +69,8 @@ module _ {g : Random} {r budget used : ℕ} {cur : Random} (h : Trying g r budge
   trying_bad u w b t = record { searching = searching_bad h.searching u (word_here w) b t; moved = next_here w }
 
   -- until the budget is used up.
-  pub trying_out : (e : Engine) → 0 < r → budget ≤ used → TriedFrom g r budget (untried used e) cur
-  trying_out e pos u = record { told = searching_out h.searching pos u; moved = h.moved }
+  pub trying_out : (e : Engine) → 0 < r → budget ≤ used → TriedFrom g r budget (untried budget e) cur
+  trying_out e pos u =
+      let whole : used ≡ budget = let w = h.searching.within_budget in omega arith in
+      subst (λ (n : ℕ). TriedFrom g r budget (untried n e) cur) whole
+      (record { told = searching_out h.searching pos u; moved = h.moved })

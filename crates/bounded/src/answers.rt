@@ -1,9 +1,9 @@
-// What the calls that draw a number hand back: an outcome, and the generator after the words that it used. The one place that builds
-// answers.
+// Answers over a lent table and by value, and what they say in document 01's numbers, as C is handed it.
 ghost use Rattle.bounded.specs.Promises.{AnswerInPromise, OutcomeOfPromise, RefuseInPromise, AcceptInPromise, JoinedPromise};
+ghost use Rattle.bounded.specs.Promises.{NumberedInPromise, ByValuePromise};
 
 use random::{Engine, Random};
-use words::Outcome;
+use words::{Outcome, Reply};
 
 // Refusal 0 where the call is answered. Where it is refused, value and used are 0, and next is the generator that came in.
 #[derive(Clone, Copy)]
@@ -14,13 +14,30 @@ pub struct Answer {
     pub next: Random,
 }
 
-// The same over a lent table. The engine stands first: so it lies aligned for its copies, which are most of a draw's time.
+// The same over a lent table.
 #[derive(Clone, Copy)]
 pub struct EngineAnswer {
     pub next: Engine,
     pub refusal: u32,
     pub value: u32,
     pub used: u32,
+}
+
+// An answer over a lent table, and the table that it left: the answer by value.
+pub fn by_value<T>(a: Reply<T, Engine>, mt: [u32; 624]) -> Reply<T, Random>
+    ensures { ByValuePromise a mt result }
+{
+    Reply {
+        next: random::with_table(a.next, mt),
+        told: a.told,
+    }
+}
+
+// What an answer says in document 01's numbers.
+pub fn numbered_in(a: Reply<u32, Engine>) -> EngineAnswer
+    ensures { NumberedInPromise a result }
+{
+    answer_in(words::numbered(a.told), a.next)
 }
 
 // The answer of an outcome: with the engine after its words.

@@ -1,9 +1,14 @@
 // Draws that are a draw below a bound with a number added: between two ends, and a letter.
+ghost use Rattle.bounded.specs.Answers.{numbered_by, numbered_in};
 ghost use Rattle.bounded.specs.Promises.{RandomRangeInPromise, RandomRangePromise, CharInPromise, CharPromise};
 
-use crate::answers::{Answer, EngineAnswer, answer_in, joined, outcome_of, refuse_in};
+use crate::answers::by_value;
 use crate::below::bounded_in;
 use random::{Engine, Random};
+use words::{Refusal, Reply};
+
+// The letters from a to z.
+const LETTERS: u32 = 26;
 
 // A number from min up to max - 1. Where it is refused the table is as it came.
 pub fn random_range_in(
@@ -12,20 +17,18 @@ pub fn random_range_in(
     min: u32,
     max: u32,
     budget: u32,
-) -> EngineAnswer
-    ensures { RandomRangeInPromise e mt.old min max budget result mt.new }
+) -> Reply<u32, Engine>
+    ensures { RandomRangeInPromise e mt.old min max budget (numbered_in result) mt.new }
 {
     if max <= min {
-        return refuse_in(words::refusal::ORDER, e);
+        return Reply::refuses(Refusal::Order, e);
     }
-    let a = bounded_in(e, mt, max - min, budget);
-    let next = a.next;
-    answer_in(words::raised(min, outcome_of(a)), next)
+    bounded_in(e, mt, max - min, budget).raised(min)
 }
 
 // A number from min up to max - 1.
-pub fn random_range(g: Random, min: u32, max: u32, budget: u32) -> Answer
-    ensures { RandomRangePromise g min max budget result }
+pub fn random_range(g: Random, min: u32, max: u32, budget: u32) -> Reply<u32, Random>
+    ensures { RandomRangePromise g min max budget (numbered_by result) }
 {
     let mut moved = g;
     let a = random_range_in(
@@ -35,25 +38,21 @@ pub fn random_range(g: Random, min: u32, max: u32, budget: u32) -> Answer
         max,
         budget,
     );
-    let mt = moved.twister.mt;
-    joined(a, mt)
+    by_value(a, moved.twister.mt)
 }
 
 // A small letter's ASCII code. Where it is refused the table is as it came.
-pub fn char_in(e: Engine, mt: &mut [u32; 624], budget: u32) -> EngineAnswer
-    ensures { CharInPromise e mt.old budget result mt.new }
+pub fn char_in(e: Engine, mt: &mut [u32; 624], budget: u32) -> Reply<u32, Engine>
+    ensures { CharInPromise e mt.old budget (numbered_in result) mt.new }
 {
-    let a = bounded_in(e, mt, 26, budget);
-    let next = a.next;
-    answer_in(words::raised(97, outcome_of(a)), next)
+    bounded_in(e, mt, LETTERS, budget).raised(b'a' as u32)
 }
 
 // A small letter's ASCII code.
-pub fn char(g: Random, budget: u32) -> Answer
-    ensures { CharPromise g budget result }
+pub fn char(g: Random, budget: u32) -> Reply<u32, Random>
+    ensures { CharPromise g budget (numbered_by result) }
 {
     let mut moved = g;
     let a = char_in(random::engine_of(g), &mut moved.twister.mt, budget);
-    let mt = moved.twister.mt;
-    joined(a, mt)
+    by_value(a, moved.twister.mt)
 }

@@ -8,7 +8,7 @@ use Rattle.random.specs.Generator.{later}
 use Rattle.random.specs.GeneratorLaws.{later_none}
 use Rattle.random.specs.Lent.{joined_with, engine_in, table_in}
 use Rattle.random.specs.LentLaws.{joined_apart}
-use Rattle.spans.specs.declared.ints.IntAnswer.{IntAnswer}
+use Rattle.spans.specs.IntAnswers.{IntAnswer}
 use Rattle.spans.specs.declared.ints.IntEngineAnswer.{IntEngineAnswer}
 use Rattle.spans.specs.declared.counting.IntOutcome.{IntOutcome}
 use Rattle.spans.specs.IntAnswers.{int_answer_from, joined_int}

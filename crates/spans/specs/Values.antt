@@ -7,7 +7,7 @@ use Rattle.random.specs.Generator.{words_of}
 use Rattle.random.specs.Sizes.{words_sized}
 use Rattle.bounded.specs.declared.answers.Answer.{Answer}
 use Rattle.bounded.specs.Answers.{answer_from}
-use Rattle.spans.specs.declared.ints.IntAnswer.{IntAnswer}
+use Rattle.spans.specs.IntAnswers.{IntAnswer}
 use Rattle.spans.specs.IntAnswers.{int_answer_from}
 use Rattle.spans.specs.Promises.{UintPromise, IntPromise}
 use Rattle.spans.specs.SpanOutcomes.{uint_between, int_between}

@@ -1,22 +1,15 @@
 // Signed numbers between two ends, both included. The span is worked out in 64 bits; what is drawn is counted from the lower end.
 ghost use Rattle.std.specs.Prelude.{◌≡◌};
-ghost use Rattle.spans.specs.IntAnswers.{int_answer_in, joined_int};
-ghost use Rattle.spans.specs.Promises.{IntInPromise, IntPromise, RangeInPromise, RangePromise};
+ghost use Rattle.words.specs.Numbers.{numbered};
+ghost use Rattle.spans.specs.IntAnswers.{int_answer_in, int_numbered_by, int_numbered_in};
+ghost use Rattle.spans.specs.Spans.{counted_modulo};
+ghost use Rattle.spans.specs.Promises.{IntInPromise, IntNumberedInPromise, IntPromise, RangeInPromise, RangePromise};
 
-use crate::counting::{IntOutcome, counted};
 use crate::span::spanned_in;
 use random::{Engine, Random};
+use words::{Refusal, Reply};
 
-// Refusal 0 where the call is answered. Where it is refused, value and used are 0, and next is the generator that came in.
-#[derive(Clone, Copy)]
-pub struct IntAnswer {
-    pub refusal: u32,
-    pub value: i32,
-    pub used: u32,
-    pub next: Random,
-}
-
-// The same over a lent table.
+// What an answer says in document 01's numbers: refused, value and used are 0, and next is the engine that came in.
 #[derive(Clone, Copy)]
 pub struct IntEngineAnswer {
     pub next: Engine,
@@ -25,47 +18,53 @@ pub struct IntEngineAnswer {
     pub used: u32,
 }
 
-// The answer of an outcome: with the engine after its words.
-fn int_answer_in(o: IntOutcome, next: Engine) -> IntEngineAnswer
-    ensures { result ≡ int_answer_in o next }
+// An answer in document 01's numbers.
+pub fn int_numbered_in(a: Reply<i32, Engine>) -> IntEngineAnswer
+    ensures { IntNumberedInPromise a result }
 {
-    IntEngineAnswer {
-        next,
-        refusal: o.refusal,
-        value: o.value,
-        used: o.used,
+    match a.told {
+        Ok(given) => IntEngineAnswer {
+            next: a.next,
+            refusal: words::refusal::ANSWERED,
+            value: given.value,
+            used: given.used,
+        },
+        Err(refusal) => IntEngineAnswer {
+            next: a.next,
+            refusal: refusal.number(),
+            value: 0,
+            used: 0,
+        },
     }
 }
 
-// The answer over a lent table, and the table that it left.
-fn joined_int(a: IntEngineAnswer, mt: [u32; 624]) -> IntAnswer
-    ensures { result ≡ joined_int a mt }
+// What is drawn, counted from min modulo 2^32 and read back as signed.
+fn counted_in(min: i32, a: Reply<u32, Engine>) -> Reply<i32, Engine>
+    ensures { int_numbered_in result ≡ int_answer_in (counted_modulo min (numbered a.told)) a.next }
 {
-    let e = a.next;
-    let next = random::with_table(e, mt);
-    IntAnswer {
-        refusal: a.refusal,
-        value: a.value,
-        used: a.used,
-        next,
+    match a.told {
+        Ok(given) => {
+            let value = signed::wrapping_add_signed(min, given.value);
+            Reply::gives(value, given.used, a.next)
+        }
+        Err(refusal) => Reply::refuses(refusal, a.next),
     }
 }
 
 // A number from min up to max. Where it is refused the table is as it came.
-pub fn int_in(e: Engine, mt: &mut [u32; 624], min: i32, max: i32, budget: u32) -> IntEngineAnswer
-    ensures { IntInPromise e mt.old min max budget result mt.new }
+pub fn int_in(e: Engine, mt: &mut [u32; 624], min: i32, max: i32, budget: u32) -> Reply<i32, Engine>
+    ensures { IntInPromise e mt.old min max budget (int_numbered_in result) mt.new }
 {
     if max < min {
-        return int_answer_in(counted(min, words::refused(words::refusal::ORDER)), e);
+        return Reply::refuses(Refusal::Order, e);
     }
     let a = spanned_in(e, mt, signed::span_of(min, max), budget);
-    let next = a.next;
-    int_answer_in(counted(min, bounded::outcome_of(a)), next)
+    counted_in(min, a)
 }
 
 // A number from min up to max.
-pub fn int(g: Random, min: i32, max: i32, budget: u32) -> IntAnswer
-    ensures { IntPromise g min max budget result }
+pub fn int(g: Random, min: i32, max: i32, budget: u32) -> Reply<i32, Random>
+    ensures { IntPromise g min max budget (int_numbered_by result) }
 {
     let mut moved = g;
     let a = int_in(
@@ -75,20 +74,25 @@ pub fn int(g: Random, min: i32, max: i32, budget: u32) -> IntAnswer
         max,
         budget,
     );
-    let mt = moved.twister.mt;
-    joined_int(a, mt)
+    bounded::by_value(a, moved.twister.mt)
 }
 
 // `int_in` by its other name.
-pub fn range_in(e: Engine, mt: &mut [u32; 624], min: i32, max: i32, budget: u32) -> IntEngineAnswer
-    ensures { RangeInPromise e mt.old min max budget result mt.new }
+pub fn range_in(
+    e: Engine,
+    mt: &mut [u32; 624],
+    min: i32,
+    max: i32,
+    budget: u32,
+) -> Reply<i32, Engine>
+    ensures { RangeInPromise e mt.old min max budget (int_numbered_in result) mt.new }
 {
     int_in(e, mt, min, max, budget)
 }
 
 // `int` by its other name.
-pub fn range(g: Random, min: i32, max: i32, budget: u32) -> IntAnswer
-    ensures { RangePromise g min max budget result }
+pub fn range(g: Random, min: i32, max: i32, budget: u32) -> Reply<i32, Random>
+    ensures { RangePromise g min max budget (int_numbered_by result) }
 {
     int(g, min, max, budget)
 }

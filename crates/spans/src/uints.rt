@@ -1,25 +1,30 @@
 // Unsigned numbers between two ends, both included.
+ghost use Rattle.bounded.specs.Answers.{numbered_by, numbered_in};
 ghost use Rattle.spans.specs.Promises.{UintInPromise, UintPromise};
 
 use crate::span::spanned_in;
-use bounded::{Answer, EngineAnswer};
 use random::{Engine, Random};
+use words::{Refusal, Reply};
 
 // A number from min up to max. Where it is refused the table is as it came.
-pub fn uint_in(e: Engine, mt: &mut [u32; 624], min: u32, max: u32, budget: u32) -> EngineAnswer
-    ensures { UintInPromise e mt.old min max budget result mt.new }
+pub fn uint_in(
+    e: Engine,
+    mt: &mut [u32; 624],
+    min: u32,
+    max: u32,
+    budget: u32,
+) -> Reply<u32, Engine>
+    ensures { UintInPromise e mt.old min max budget (numbered_in result) mt.new }
 {
     if max < min {
-        return bounded::refuse_in(words::refusal::ORDER, e);
+        return Reply::refuses(Refusal::Order, e);
     }
-    let a = spanned_in(e, mt, max - min, budget);
-    let next = a.next;
-    bounded::answer_in(words::raised(min, bounded::outcome_of(a)), next)
+    spanned_in(e, mt, max - min, budget).raised(min)
 }
 
 // A number from min up to max.
-pub fn uint(g: Random, min: u32, max: u32, budget: u32) -> Answer
-    ensures { UintPromise g min max budget result }
+pub fn uint(g: Random, min: u32, max: u32, budget: u32) -> Reply<u32, Random>
+    ensures { UintPromise g min max budget (numbered_by result) }
 {
     let mut moved = g;
     let a = uint_in(
@@ -29,6 +34,5 @@ pub fn uint(g: Random, min: u32, max: u32, budget: u32) -> Answer
         max,
         budget,
     );
-    let mt = moved.twister.mt;
-    bounded::joined(a, mt)
+    bounded::by_value(a, moved.twister.mt)
 }

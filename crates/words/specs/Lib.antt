@@ -4,6 +4,7 @@
 pub mod Refusal
 pub mod Draw
 pub mod Outcomes
+pub mod Numbers
 -- The test of a word in plain numbers, and the search for the first that passes it.
 pub mod FirstPlace
 pub mod GoodWord
@@ -24,6 +25,7 @@ pub mod Threshold
 pub mod DrawLoop
 pub mod DrawsLoop
 pub mod OutcomeLaws
+pub mod NumbersLaws
 -- The bench examples.
 pub mod Table
 pub mod Bench

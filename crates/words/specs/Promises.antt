@@ -1,7 +1,11 @@
 -- What each public call promises of its answer: the contracts of src/, by name.
-use Rattle.std.specs.Prelude.{Bool, ◌≡◌, ◌*◌, ℕ}
+use Rattle.std.specs.Prelude.{Bool, ◌≡◌, ◌*◌, ℕ, Result, Ok, Err}
 use Rattle.words.specs.declared.outcome.Outcome.{Outcome}
+use Rattle.words.specs.declared.refusal.Refusal.{Refusal}
+use Rattle.words.specs.declared.reply.Given.{Given}
+use Rattle.words.specs.declared.reply.Reply.{Reply}
 use Rattle.words.specs.Draw.{good, quotient, refused, gives}
+use Rattle.words.specs.Numbers.{number_of, numbered}
 use Rattle.words.specs.Outcomes.{raised_modulo}
 use Rattle.words.specs.Threshold.{threshold}
 
@@ -32,3 +36,23 @@ GivesPromise value used o = o ≡ gives value used
 -- n added to the value of an answer, modulo 2^32
 abbrev pub RaisedPromise : ℕ → Outcome → Outcome → Type 0
 RaisedPromise n o r = r ≡ raised_modulo n o
+
+-- a refusal's number (document 01, "When the unit says no")
+abbrev pub RefusalNumberPromise : Refusal → ℕ → Type 0
+RefusalNumberPromise r number = number ≡ number_of r
+
+-- a value, the words used, and the generator after them
+abbrev pub RepliesPromise : {T G : Type 0} → T → ℕ → G → Reply T G → Type 0
+RepliesPromise value used next a = a ≡ record { next = next; told = Ok (record { value = value; used = used }) }
+
+-- a refusal, and the generator that came in
+abbrev pub RefusesPromise : {T G : Type 0} → Refusal → G → Reply T G → Type 0
+RefusesPromise refusal next a = a ≡ record { next = next; told = Err refusal }
+
+-- what a call tells, in document 01's numbers
+abbrev pub NumberedPromise : Result (Given ℕ) Refusal → Outcome → Type 0
+NumberedPromise told o = o ≡ numbered told
+
+-- n added to the value, modulo 2^32, and the generator that stood there
+abbrev pub RaisesPromise : {G : Type 0} → ℕ → Reply ℕ G → Reply ℕ G → Type 0
+RaisesPromise n a r = (numbered r.told ≡ raised_modulo n (numbered a.told)) × (r.next ≡ a.next)

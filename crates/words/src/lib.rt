@@ -5,8 +5,11 @@ ghost use Rattle.words.specs.Promises.{ProductPromise, ThresholdPromise, IsGoodP
 
 mod outcome;
 pub mod refusal;
+mod reply;
 
 pub use outcome::{Outcome, gives, raised, refused};
+pub use refusal::Refusal;
+pub use reply::{Given, Reply, numbered};
 
 // The whole product of a word and r.
 pub fn product(w: u32, r: u32) -> u64

@@ -1,5 +1,64 @@
-// The refusals of document 01, "When the unit says no": every call that refuses gives one of these numbers, and no other file has them.
-// specs/Refusal.antt names the same numbers for contracts and proofs.
+// The refusals of document 01, "When the unit says no": an enum for code, and the number that document 01 has for each. No other file has
+// the numbers; specs/Refusal.antt names the same ones for contracts and proofs.
+ghost use Rattle.words.specs.Promises.{RefusalNumberPromise};
+
+use std::fmt;
+
+// Why a call says no.
+#[derive(Clone, Copy, Debug, PartialEq, Eq)]
+pub enum Refusal {
+    ZeroRange,
+    Order,
+    Chance,
+    Empty,
+    TooLong,
+    Window,
+    NotFinite,
+    Budget,
+    NoSplit,
+    Kind,
+    SeedLength,
+}
+
+impl Refusal {
+    // Its number, for C and for the logs.
+    pub fn number(self) -> u32
+        ensures { RefusalNumberPromise self result }
+    {
+        match self {
+            Refusal::ZeroRange => ZERO_RANGE,
+            Refusal::Order => ORDER,
+            Refusal::Chance => CHANCE,
+            Refusal::Empty => EMPTY,
+            Refusal::TooLong => TOO_LONG,
+            Refusal::Window => WINDOW,
+            Refusal::NotFinite => NOT_FINITE,
+            Refusal::Budget => BUDGET,
+            Refusal::NoSplit => NO_SPLIT,
+            Refusal::Kind => KIND,
+            Refusal::SeedLength => SEED_LENGTH,
+        }
+    }
+}
+
+// Its name in document 01.
+impl fmt::Display for Refusal {
+    fn fmt<W: fmt::Write>(&self, f: &mut fmt::Formatter<W>) -> fmt::Result {
+        f.write_str(match self {
+            Refusal::ZeroRange => "ZERO RANGE",
+            Refusal::Order => "ORDER",
+            Refusal::Chance => "CHANCE",
+            Refusal::Empty => "EMPTY",
+            Refusal::TooLong => "TOO LONG",
+            Refusal::Window => "WINDOW",
+            Refusal::NotFinite => "NOT FINITE",
+            Refusal::Budget => "BUDGET",
+            Refusal::NoSplit => "NO SPLIT",
+            Refusal::Kind => "KIND",
+            Refusal::SeedLength => "SEED LENGTH",
+        })
+    }
+}
 
 // The call is answered.
 pub const ANSWERED: u32 = 0;

@@ -1,25 +1,21 @@
 -- `settle` meets its contract: the kinds that don't draw from the table leave it alone.
-use mathlib.Core.Path.{refl, sym, ◌∙◌}
-use native.Mathlib.Omega.{arith}
+use Rattle.std.proofs.Common.{refl, sym, ◌∙◌, ap, arith}
+use Rattle.bounded.specs.Answers.{numbered_in}
 use Rattle.bounded.specs.AnswerLaws.{draws_zero, draws_found, draws_short}
 use Rattle.random.specs.TableKept.{others_keep}
 use Rattle.bounded.proofs.below.settle.Goals as goal
 
-pub returns-then-r-eq0 : goal.returns-then-r-eq0
-returns-then-r-eq0 c =
-    let d = draws_zero _ _ _ c.refuse_in.ensures c.if-r-eq0.true in
-    record { answer = d.0; small = d.1 }
+pub returns-then-r-eq0-clause-answer : goal.returns-then-r-eq0-clause-answer
+returns-then-r-eq0-clause-answer c = (draws_zero _ _ _ (ap numbered_in c.refuses.ensures) c.if-r-eq0.true).0
 
-pub returns-then-t : goal.returns-then-t
-returns-then-t c =
+pub returns-in-Some-clause-answer : goal.returns-in-Some-clause-answer
+returns-in-Some-clause-answer c =
     let tried = c.draw_in-t.ensures in
-    let d = draws_found _ _ tried.draw refl c.if-t.true tried.small c.accept_in.ensures in
-    record { answer = d.0; small = d.1 }
+    (draws_found _ _ tried.draw refl c.in-Some.is (rw c.in-Some.is at tried.small) (ap numbered_in c.gives.ensures)).0
 
-pub returns : goal.returns
-returns c =
+pub returns-in-None-clause-answer : goal.returns-in-None-clause-answer
+returns-in-None-clause-answer c =
     let tried = c.draw_in-t.ensures in
     let kept = others_keep _ _ _ (sym c.on_table.ensures ∙ c.if-on_table.false) tried.draw.moved in
     let some = c.if-r-eq0.false in
-    let d = draws_short _ _ tried.draw (omega (arith, some)) c.if-t.false c.refuse_in-2.ensures in
-    record { answer = rw kept d.0; small = d.1 }
+    rw kept (draws_short _ _ tried.draw (omega (arith, some)) c.in-None.is (ap numbered_in c.refuses-in-None.ensures)).0

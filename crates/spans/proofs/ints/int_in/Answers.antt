@@ -7,9 +7,7 @@ use Rattle.spans.proofs.ints.int_in.Goals as goal
 pub returns-then-max-min : goal.returns-then-max-min
 returns-then-max-min c =
     let f = c.ranges in
-    rw (int_order _ _ _ _ (test_read f.min f.max c.if-max-min.true))
-    (counted_refused _ _ f.min c.refused.ensures (rw (arg_read f.min) at c.counted.ensures)
-    c.int_answer_in.ensures)
+    rw (int_order _ _ _ _ (test_read f.min f.max c.if-max-min.true)) (counted_refused _ _ _ c.refuses.ensures)
 
 pub returns : goal.returns
 returns c =
@@ -17,5 +15,4 @@ returns c =
     let span = span_read f.min f.max c.span_of.ensures in
     let answer = rw span at c.spanned_in-a.ensures in
     rw (int_drawn _ _ _ _ (test_read f.min f.max c.if-max-min.false))
-    (counted_answers _ _ f.min f.max answer.answer answer.small c.outcome_of.ensures
-    (rw (arg_read f.min) at c.counted-2.ensures) c.int_answer_in-2.ensures)
+    (counted_answers _ _ _ _ f.min f.max answer.answer answer.small (rw (arg_read f.min) at c.counted_in.ensures))

@@ -1,20 +1,17 @@
 -- `spanned_in` meets its contract.
-use mathlib.Core.Path.{sym, ◌∙◌, ap}
-use native.Mathlib.Omega.{arith}
-use Rattle.bounded.specs.Answers.{answer_from}
-use Rattle.spans.specs.SpanLaws.{span_whole, span_part}
+use Rattle.std.proofs.Common.{sym, ◌∙◌, ap}
+use Rattle.bounded.specs.Answers.{answer_from, numbered_in}
+use Rattle.spans.specs.SpanLaws.{span_answers, span_whole, span_part}
 use Rattle.spans.proofs.span.spanned_in.Goals as goal
 
-pub returns-then-last-eq4294967295 : goal.returns-then-last-eq4294967295
-returns-then-last-eq4294967295 c =
-    let whole = c.if-last-eq4294967295.true in
-    record {
-      answer = c.raw_in.ensures ∙ ap (answer_from _) (sym (span_whole _ _ _ whole));
-      small = λ z. omega (arith, c.raw_in.type_inv);
-    }
+pub returns-then-last-eq0-clause-answer : goal.returns-then-last-eq0-clause-answer
+returns-then-last-eq0-clause-answer c = span_answers _ _ _ _ (ap numbered_in c.gives.ensures) c.if-last-eq0.true
 
-pub returns : goal.returns
-returns c =
-    let drawn = c.bounded_in.ensures in
+pub returns-then-last-eq4294967295-clause-answer : goal.returns-then-last-eq4294967295-clause-answer
+returns-then-last-eq4294967295-clause-answer c =
+    c.raw_in.ensures ∙ ap (answer_from _) (sym (span_whole _ _ _ c.if-last-eq4294967295.true))
+
+pub returns-clause-answer : goal.returns-clause-answer
+returns-clause-answer c =
     let part = span_part _ _ _ c.if-last-eq0.false c.if-last-eq4294967295.false in
-    record { answer = drawn.answer ∙ ap (answer_from _) (sym part); small = drawn.small }
+    c.bounded_in.ensures.answer ∙ ap (answer_from _) (sym part)
