@@ -8,7 +8,7 @@ use Rattle.words.specs.declared.outcome.Outcome.{Outcome}
 use Rattle.bounded.specs.OneAnswer.{answer_apart}
 use Rattle.bounded.specs.Promises.{AcceptInPromise, AnswerInPromise, BoundedInPromise, BoundedPromise, CharInPromise}
 use Rattle.bounded.specs.Promises.{CharPromise, JoinedPromise, OutcomeOfPromise, RandomRangeInPromise, RandomRangePromise}
-use Rattle.bounded.specs.Promises.{ByValuePromise, NumberedInPromise, RefuseInPromise}
+use Rattle.bounded.specs.Promises.{ByValuePromise, RefuseInPromise}
 use Rattle.words.specs.declared.reply.Reply.{Reply}
 use Rattle.bounded.specs.declared.answers.Answer.{Answer}
 use Rattle.bounded.specs.declared.answers.EngineAnswer.{EngineAnswer}
@@ -32,9 +32,6 @@ one_joined a mt p q = p ∙ sym q
 pub one_by_value : {T : Type 0} (a : Reply T Engine) (mt : List ℕ) {r r' : Reply T Random}
     → ByValuePromise a mt r → ByValuePromise a mt r' → r ≡ r'
 one_by_value a mt p q = p ∙ sym q
-
-pub one_numbered_in : (a : Reply ℕ Engine) {r r' : EngineAnswer} → NumberedInPromise a r → NumberedInPromise a r' → r ≡ r'
-one_numbered_in a p q = p ∙ sym q
 
 pub one_bounded : (g : Random) (r budget : ℕ) {a b : Answer} → BoundedPromise g r budget a → BoundedPromise g r budget b → a ≡ b
 one_bounded g r budget p q = p ∙ sym q

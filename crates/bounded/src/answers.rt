@@ -1,6 +1,6 @@
 // Answers over a lent table and by value, and what they say in document 01's numbers, as C is handed it.
 ghost use Rattle.bounded.specs.Promises.{AnswerInPromise, OutcomeOfPromise, RefuseInPromise, AcceptInPromise, JoinedPromise};
-ghost use Rattle.bounded.specs.Promises.{NumberedInPromise, ByValuePromise};
+ghost use Rattle.bounded.specs.Promises.{ByValuePromise};
 
 use random::{Engine, Random};
 use words::{Outcome, Reply};
@@ -31,13 +31,6 @@ pub fn by_value<T>(a: Reply<T, Engine>, mt: [u32; 624]) -> Reply<T, Random>
         next: random::with_table(a.next, mt),
         told: a.told,
     }
-}
-
-// What an answer says in document 01's numbers.
-pub fn numbered_in(a: Reply<u32, Engine>) -> EngineAnswer
-    ensures { NumberedInPromise a result }
-{
-    answer_in(words::numbered(a.told), a.next)
 }
 
 // The answer of an outcome: with the engine after its words.

@@ -8,7 +8,7 @@ mod draw;
 mod ranges;
 
 pub use answers::{
-    Answer, EngineAnswer, accept_in, answer_in, by_value, joined, numbered_in, outcome_of,
+    Answer, EngineAnswer, accept_in, answer_in, by_value, joined, outcome_of,
     refuse_in,
 };
 pub use below::{bounded, bounded_in};

@@ -1,10 +1,10 @@
 // The plan of a day. What its shuffle comes to is known before a slot is touched: so a refusal leaves the day as it came.
+ghost use Rattle.shuffle.specs.Replies.{done_by, done_in};
 ghost use Rattle.day_plan.specs.Promises.{PlanDayInPromise, PlanDayPromise};
 
 use crate::layout::lay_out;
-use bounded::{Answer, EngineAnswer, answer_in};
 use random::{Engine, Random};
-use words::refusal;
+use words::Reply;
 
 // So many blanks and each inlet once, in an order drawn at random: 0 is a blank, and 1, 2, .. the inlets. Where it is refused, day and
 // table are as they came.
@@ -14,21 +14,21 @@ pub fn plan_day_in(
     day: &mut [u32],
     blanks: usize,
     budget: u32,
-) -> EngineAnswer
-    ensures { PlanDayInPromise e mt.old day.old blanks budget result mt.new day.new }
+) -> Reply<(), Engine>
+    ensures { PlanDayInPromise e mt.old day.old blanks budget (done_in result) mt.new day.new }
 {
-    let o = shuffle::outcome_in(e, mt, day.len(), budget);
-    if o.refusal != refusal::ANSWERED {
-        return answer_in(o, e);
+    match shuffle::outcome_in(e, mt, day.len(), budget) {
+        Ok(given) => {
+            lay_out(day, blanks);
+            Reply::gives((), given.used, shuffle::perform_in(e, mt, day, budget))
+        }
+        Err(refusal) => Reply::refuses(refusal, e),
     }
-    lay_out(day, blanks);
-    let next = shuffle::perform_in(e, mt, day, budget);
-    answer_in(o, next)
 }
 
 // The same by value. Where it is refused the day is as it came.
-pub fn plan_day(g: Random, day: &mut [u32], blanks: usize, budget: u32) -> Answer
-    ensures { PlanDayPromise g day.old blanks budget result day.new }
+pub fn plan_day(g: Random, day: &mut [u32], blanks: usize, budget: u32) -> Reply<(), Random>
+    ensures { PlanDayPromise g day.old blanks budget (done_by result) day.new }
 {
     let mut moved = g;
     let a = plan_day_in(
@@ -38,6 +38,5 @@ pub fn plan_day(g: Random, day: &mut [u32], blanks: usize, budget: u32) -> Answe
         blanks,
         budget,
     );
-    let mt = moved.twister.mt;
-    bounded::joined(a, mt)
+    bounded::by_value(a, moved.twister.mt)
 }

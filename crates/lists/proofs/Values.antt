@@ -6,8 +6,8 @@ use Rattle.words.specs.Refusal.{answered}
 use Rattle.random.specs.declared.backend.Random.{Random}
 use Rattle.random.specs.Generator.{words_of}
 use Rattle.random.specs.Sizes.{words_sized}
-use Rattle.lists.specs.declared.places.Chosen.{Chosen}
-use Rattle.lists.specs.declared.windows.SliceStart.{SliceStart}
+use Rattle.lists.specs.Choosing.{Chosen}
+use Rattle.lists.specs.Slicing.{SliceStart}
 use Rattle.lists.specs.Choosing.{choice_from}
 use Rattle.lists.specs.Slicing.{start_of, start_from}
 use Rattle.lists.specs.Promises.{ChoosePromise, RandSlicePromise}

@@ -1,6 +1,7 @@
 -- What the code builds for a draw after a check, over a lent table, once it has worked the check's number out.
-use Rattle.std.specs.Prelude.{◌≡◌, List, ℕ}
-use Rattle.std.proofs.Common.{sym, ◌∙◌, ap}
+use Rattle.std.specs.Prelude.{◌≡◌, refl, List, ℕ, Result, Ok, Err}
+use Rattle.std.specs.Result.{result_and}
+use Rattle.std.proofs.Common.{sym, ◌∙◌, ap, arith}
 use Rattle.words.specs.Refusal.{answered}
 use Rattle.words.specs.declared.outcome.Outcome.{Outcome}
 use Rattle.words.specs.Draw.{refused}
@@ -10,7 +11,12 @@ use Rattle.random.specs.Lent.{joined_with}
 use Rattle.bounded.specs.declared.answers.EngineAnswer.{EngineAnswer}
 use Rattle.bounded.specs.Answers.{answer_from, joined_answer, refusing}
 use Rattle.bounded.specs.AnswerLaws.{refusing_answers}
-use Rattle.lists.specs.Checks.{unless}
+use Rattle.words.specs.declared.refusal.Refusal.{Refusal}
+use Rattle.words.specs.Numbers.{number_of}
+use Rattle.words.specs.NumbersLaws.{number_positive}
+use Rattle.lists.specs.Checks.{first_of, unless}
+use Rattle.lists.specs.CheckLaws.{first_passed, first_refuses}
+use Rattle.lists.specs.Replies.{refusal_in}
 use Rattle.lists.specs.CheckedDraws.{unless_passed, unless_refuses}
 
 module _ {number checked : ℕ} (o : Outcome) (told : number ≡ checked) where
@@ -24,3 +30,8 @@ module _ {number checked : ℕ} (o : Outcome) (told : number ≡ checked) where
     refusing_answers e m p (unless_refuses checked o (λ z. h (told ∙ z)) ∙ ap refused (sym told)),
     λ z. h (sym (ap (λ (x : EngineAnswer). x.refusal) p) ∙ z),
   )
+
+-- Of two checks one after the other the first that refuses gives the number.
+pub first_and : {T : Type 0} (a b : Result T Refusal) → refusal_in (result_and a b) ≡ first_of (refusal_in a) (refusal_in b)
+first_and (Ok t) b = sym (first_passed answered (refusal_in b) refl)
+first_and (Err r) b = sym (first_refuses (number_of r) (refusal_in b) (λ z. let some = number_positive r in omega arith))

@@ -1,18 +1,21 @@
 -- What the code of `choose` builds is the answer of its definition.
 use Rattle.std.specs.Prelude.{◌≡◌, List, ℕ, ◌≤◌, length}
 use Rattle.std.proofs.Math.Path.{refl}
-use Rattle.std.proofs.Common.{sym, ◌∙◌, ap}
+use Rattle.std.proofs.Common.{sym, ◌∙◌, ap, subst}
 use Rattle.std.proofs.Math.ListN.{get_or, get_or-eq_default}
 use Rattle.words.specs.declared.outcome.Outcome.{Outcome}
 use Rattle.words.specs.Refusal.{answered}
 use Rattle.words.specs.OutcomeLaws.{worked_answered, worked_refused}
 use Rattle.random.specs.declared.backend.Random.{Random}
-use Rattle.bounded.specs.declared.answers.EngineAnswer.{EngineAnswer}
-use Rattle.bounded.specs.Answers.{answer_from, outcome_in, joined_answer}
+use Rattle.random.specs.declared.engine.Engine.{Engine}
+use Rattle.words.specs.declared.reply.Reply.{Reply}
+use Rattle.bounded.specs.Answers.{answer_from, joined_answer, numbered_in}
 use Rattle.bounded.specs.AnswerLaws.{worked_answers}
 use Rattle.random.specs.Lent.{joined_with}
 use Rattle.lists.specs.declared.outcomes.Choice.{Choice}
-use Rattle.lists.specs.Choosing.{entry_of, choice_with, choice_from}
+use Rattle.lists.specs.Choosing.{entry_of, choice_with, choice_from, joined_choice}
+use Rattle.lists.specs.Replies.{EntryIn, choice, choice_in}
+use Rattle.lists.specs.declared.places.Entry.{Entry}
 use Rattle.lists.specs.Promises.{PlaceWithin}
 
 -- ---- the outcome read on the list
@@ -40,15 +43,16 @@ module _ (list : List ℕ) (o : Outcome) where
 
 -- ---- and so the answer
 
-pub entry_answers : {a : EngineAnswer} {t : List ℕ} {told : Outcome} {c : Choice} (list : List ℕ) (g : Random) (o : Outcome)
-    → joined_answer a t ≡ answer_from g o → told ≡ outcome_in a → c ≡ entry_of list told
-    → choice_with c (joined_with a.next t) ≡ choice_from g (entry_of list o)
+pub entry_answers : (a : Reply ℕ Engine) (b : Reply Entry Engine) {t : List ℕ} (list : List ℕ) (g : Random) (o : Outcome)
+    → joined_answer (numbered_in a) t ≡ answer_from g o → EntryIn list a b
+    → joined_choice (choice_in b) t ≡ choice_from g (entry_of list o)
 unfolding choice_from
-entry_answers list g o h told made =
-    worked_answers choice_with (λ (x : Choice). x.used) (entry_of list) g o h (made ∙ ap (entry_of list) told) (entry_used list o)
+entry_answers a b {t} list g o h made =
+    ap (λ (e : Engine). choice_with (choice b.told) (joined_with e t)) made.1
+    ∙ worked_answers choice_with (λ (x : Choice). x.used) (entry_of list) g o h made.0 (entry_used list o)
 
 -- a place that is one of the n stays so
-pub entry_within : {o told : Outcome} {c : Choice} (n : ℕ) (list : List ℕ) → told ≡ o → c ≡ entry_of list told
-    → PlaceWithin n o.refusal o.value → PlaceWithin n c.refusal c.place
+pub entry_within : (a : Reply ℕ Engine) (b : Reply Entry Engine) (n : ℕ) (list : List ℕ) → EntryIn list a b
+    → PlaceWithin n (numbered_in a).refusal (numbered_in a).value → PlaceWithin n (choice_in b).refusal (choice_in b).place
 unfolding entry_of
-entry_within n list told made within = rw (made, told) within
+entry_within a b n list made within = subst (λ (c : Choice). PlaceWithin n c.refusal c.place) (sym made.0) within

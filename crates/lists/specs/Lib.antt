@@ -5,6 +5,7 @@ pub mod Limit
 pub mod Checks
 pub mod Choosing
 pub mod Slicing
+pub mod Replies
 -- What their promises fix: when a call is refused, where its answer lies, the same answer at every larger budget; one answer.
 pub mod CheckLaws
 pub mod CheckedDraws

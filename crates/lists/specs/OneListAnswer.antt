@@ -1,21 +1,27 @@
 -- What the promises of `choose` and `rand_slice` fix, whatever the outcome: the next generator is the old one after the words used, a
 -- refusal leaves it, and two answers that meet one promise are the same, over a lent table the tables too.
-use Rattle.std.specs.Prelude.{◌≡◌, List, ℕ}
-use Rattle.std.proofs.Common.{ap}
+use Rattle.std.specs.Prelude.{◌≡◌, List, ℕ, Result, Ok, Err}
+use Rattle.std.proofs.Common.{ap, ap₂, arith}
 use Rattle.random.specs.declared.backend.Random.{Random}
 use Rattle.random.specs.declared.engine.Engine.{Engine}
 use Rattle.random.specs.Generator.{later}
 use Rattle.random.specs.GeneratorLaws.{later_none}
 use Rattle.random.specs.Lent.{joined_with, engine_in, table_in}
 use Rattle.random.specs.LentLaws.{joined_apart}
-use Rattle.lists.specs.declared.places.Chosen.{Chosen}
-use Rattle.lists.specs.declared.places.EngineChosen.{EngineChosen}
-use Rattle.lists.specs.declared.windows.SliceStart.{SliceStart}
-use Rattle.lists.specs.declared.windows.EngineSliceStart.{EngineSliceStart}
+use Rattle.lists.specs.Choosing.{Chosen}
+use Rattle.lists.specs.Choosing.{EngineChosen}
+use Rattle.lists.specs.Slicing.{SliceStart}
+use Rattle.lists.specs.Slicing.{EngineSliceStart}
 use Rattle.lists.specs.declared.outcomes.Choice.{Choice}
 use Rattle.lists.specs.declared.outcomes.SliceOutcome.{SliceOutcome}
 use Rattle.lists.specs.Choosing.{choice_from, joined_choice}
-use Rattle.lists.specs.Slicing.{start_from, joined_start}
+use Rattle.lists.specs.Slicing.{start_of, start_from, joined_start}
+use Rattle.lists.specs.Replies.{choice, choice_by, choice_in, start_by, start_in}
+use Rattle.lists.specs.declared.places.Entry.{Entry}
+use Rattle.words.specs.declared.refusal.Refusal.{Refusal}
+use Rattle.words.specs.declared.reply.Given.{Given}
+use Rattle.words.specs.declared.reply.Reply.{Reply}
+use Rattle.words.specs.NumbersLaws.{number_positive, numbers_apart, one_number}
 
 -- ---- `choose` by value
 
@@ -65,3 +71,36 @@ start_apart h = (
 pub start_unmoved_in : {a : EngineSliceStart} {m' : List ℕ} (e : Engine) (m : List ℕ) (s : SliceOutcome)
     → joined_start a m' ≡ start_from (joined_with e m) s → s.used ≡ 0 → (a.next ≡ e) × (m' ≡ m)
 start_unmoved_in e m s p none = joined_apart (start_unmoved (joined_with e m) s p none)
+
+-- ---- the code's answers: two that say the same in document 01's numbers are the same
+
+choices_apart : (a b : Result (Given Entry) Refusal) → choice a ≡ choice b → a ≡ b
+choices_apart (Ok g) (Ok h) e =
+    ap (λ (c : Choice). Ok (record { value = record { place = c.place; value = c.value }; used = c.used })) e
+choices_apart (Err r) (Err q) e = ap Err (one_number (ap (λ (c : Choice). c.refusal) e))
+choices_apart (Ok g) (Err q) e = absurd (omega (arith, number_positive q, ap (λ (c : Choice). c.refusal) e))
+choices_apart (Err r) (Ok h) e = absurd (omega (arith, number_positive r, ap (λ (c : Choice). c.refusal) e))
+
+pub choice_same_by : (a b : Reply Entry Random) → choice_by a ≡ choice_by b → a ≡ b
+choice_same_by a b h =
+    ap₂ (λ (g : Random) (t : Result (Given Entry) Refusal). record { next = g; told = t }) (ap (λ (x : Chosen). x.next) h)
+    (choices_apart a.told b.told
+    (ap (λ (x : Chosen). record { refusal = x.refusal; place = x.place; value = x.value; used = x.used }) h))
+
+pub choice_same_in : (a b : Reply Entry Engine) → choice_in a ≡ choice_in b → a ≡ b
+choice_same_in a b h =
+    ap₂ (λ (e : Engine) (t : Result (Given Entry) Refusal). record { next = e; told = t }) (ap (λ (x : EngineChosen). x.next) h)
+    (choices_apart a.told b.told
+    (ap (λ (x : EngineChosen). record { refusal = x.refusal; place = x.place; value = x.value; used = x.used }) h))
+
+pub start_same_by : (a b : Reply ℕ Random) → start_by a ≡ start_by b → a ≡ b
+unfolding start_of
+start_same_by a b h =
+    ap₂ (λ (g : Random) (t : Result (Given ℕ) Refusal). record { next = g; told = t }) (ap (λ (x : SliceStart). x.next) h)
+    (numbers_apart a.told b.told (ap (λ (x : SliceStart). record { refusal = x.refusal; value = x.start; used = x.used }) h))
+
+pub start_same_in : (a b : Reply ℕ Engine) → start_in a ≡ start_in b → a ≡ b
+unfolding start_of
+start_same_in a b h =
+    ap₂ (λ (e : Engine) (t : Result (Given ℕ) Refusal). record { next = e; told = t }) (ap (λ (x : EngineSliceStart). x.next) h)
+    (numbers_apart a.told b.told (ap (λ (x : EngineSliceStart). record { refusal = x.refusal; value = x.start; used = x.used }) h))

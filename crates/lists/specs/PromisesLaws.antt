@@ -11,10 +11,10 @@ use Rattle.lists.specs.Promises.{StartOfPromise, WindowOfPromise}
 use Rattle.words.specs.declared.outcome.Outcome.{Outcome}
 use Rattle.lists.specs.declared.outcomes.Choice.{Choice}
 use Rattle.lists.specs.declared.outcomes.SliceOutcome.{SliceOutcome}
-use Rattle.lists.specs.declared.places.Chosen.{Chosen}
-use Rattle.lists.specs.declared.places.EngineChosen.{EngineChosen}
-use Rattle.lists.specs.declared.windows.EngineSliceStart.{EngineSliceStart}
-use Rattle.lists.specs.declared.windows.SliceStart.{SliceStart}
+use Rattle.lists.specs.Choosing.{Chosen}
+use Rattle.lists.specs.Choosing.{EngineChosen}
+use Rattle.lists.specs.Slicing.{EngineSliceStart}
+use Rattle.lists.specs.Slicing.{SliceStart}
 
 pub one_entry_of : (list : List ℕ) (o : Outcome) {a b : Choice} → EntryOfPromise list o a → EntryOfPromise list o b → a ≡ b
 one_entry_of list o p q = p ∙ sym q

@@ -5,12 +5,13 @@ use native.Mathlib.Omega.{arith}
 use Rattle.std.proofs.lemmas.Bool.{lt-leb}
 use Rattle.words.specs.declared.outcome.Outcome.{Outcome}
 use Rattle.random.specs.declared.backend.Random.{Random}
-use Rattle.random.specs.Lent.{joined_with}
-use Rattle.bounded.specs.declared.answers.EngineAnswer.{EngineAnswer}
-use Rattle.bounded.specs.Answers.{answer_from, outcome_in, joined_answer}
+use Rattle.random.specs.declared.engine.Engine.{Engine}
+use Rattle.words.specs.declared.reply.Reply.{Reply}
+use Rattle.bounded.specs.Answers.{answer_from, joined_answer, numbered_in}
+use Rattle.lists.specs.Replies.{start_in}
 use Rattle.bounded.specs.AnswerLaws.{worked_answers}
 use Rattle.lists.specs.declared.outcomes.SliceOutcome.{SliceOutcome}
-use Rattle.lists.specs.Slicing.{start_of, start_with, start_from, part_of, part_place}
+use Rattle.lists.specs.Slicing.{start_of, start_with, start_from, joined_start, part_of, part_place}
 use Rattle.lists.specs.Promises.{PartFits}
 
 -- ---- the start
@@ -19,18 +20,18 @@ pub start_used : (o : Outcome) → (start_of o).used ≡ o.used
 unfolding start_of
 start_used o = refl
 
-pub start_answers : {a : EngineAnswer} {t : List ℕ} {told : Outcome} {s : SliceOutcome} (g : Random) (o : Outcome)
-    → joined_answer a t ≡ answer_from g o → told ≡ outcome_in a → s ≡ start_of told
-    → start_with s (joined_with a.next t) ≡ start_from g (start_of o)
+pub start_answers : (a b : Reply ℕ Engine) {t : List ℕ} (g : Random) (o : Outcome)
+    → joined_answer (numbered_in a) t ≡ answer_from g o → b ≡ a → joined_start (start_in b) t ≡ start_from g (start_of o)
 unfolding start_from
-start_answers g o h told made =
-    worked_answers start_with (λ (x : SliceOutcome). x.used) start_of g o h (made ∙ ap start_of told) (start_used o)
+start_answers a b {t} g o h same =
+    ap (λ (r : Reply ℕ Engine). joined_start (start_in r) t) same
+    ∙ worked_answers start_with (λ (x : SliceOutcome). x.used) start_of g o h refl (start_used o)
 
 -- a start that leaves room stays so
-pub start_fits : {o told : Outcome} {s : SliceOutcome} (n window : ℕ) → told ≡ o → s ≡ start_of told
-    → PartFits n window o.refusal o.value → PartFits n window s.refusal s.start
+pub start_fits : (a b : Reply ℕ Engine) (n window : ℕ) → b ≡ a
+    → PartFits n window (numbered_in a).refusal (numbered_in a).value → PartFits n window (start_in b).refusal (start_in b).start
 unfolding start_of
-start_fits n window told made fits = rw (made, told) fits
+start_fits a b n window same fits = rw same fits
 
 -- ---- the part
 

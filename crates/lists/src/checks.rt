@@ -1,40 +1,41 @@
-// What a list and a window are refused with before a word is drawn; 0 where they are not.
+// What a list and a window are refused with before a word is drawn.
 ghost use Rattle.std.specs.Prelude.{◌≡◌};
-ghost use Rattle.lists.specs.Checks.{list_refusal, window_refusal, first_of};
+ghost use Rattle.lists.specs.Checks.{list_refusal, slice_refusal, window_refusal};
+ghost use Rattle.lists.specs.Replies.{refusal_in};
+
+use words::Refusal;
 
 // A list of n entries: only its length is looked at.
 #[tactic(auto, unfolding(crate::specs::Checks::list_refusal))]
-pub(crate) fn list_refusal(n: usize) -> u32
-    ensures { result ≡ list_refusal n }
+pub(crate) fn list_check(n: usize) -> Result<(), Refusal>
+    ensures { refusal_in result ≡ list_refusal n }
 {
     if n == 0 {
-        return words::refusal::EMPTY;
+        return Err(Refusal::Empty);
     }
     if n > crate::limit::LIST_LIMIT {
-        return words::refusal::TOO_LONG;
+        return Err(Refusal::TooLong);
     }
-    words::refusal::ANSWERED
+    Ok(())
 }
 
 // A window, in a list of n entries.
-pub(crate) fn window_refusal(n: usize, window: usize) -> u32
-    ensures { result ≡ window_refusal n window }
+#[tactic(auto, unfolding(crate::specs::Checks::window_refusal))]
+fn window_check(n: usize, window: usize) -> Result<(), Refusal>
+    ensures { refusal_in result ≡ window_refusal n window }
 {
     if window == 0 {
-        return words::refusal::WINDOW;
+        return Err(Refusal::Window);
     }
     if window > n {
-        return words::refusal::WINDOW;
+        return Err(Refusal::Window);
     }
-    words::refusal::ANSWERED
+    Ok(())
 }
 
-// The first of two checks that refuses.
-pub(crate) fn first_of(first: u32, second: u32) -> u32
-    ensures { result ≡ first_of first second }
+// Both: the list first.
+pub(crate) fn slice_check(n: usize, window: usize) -> Result<(), Refusal>
+    ensures { refusal_in result ≡ slice_refusal n window }
 {
-    if first == words::refusal::ANSWERED {
-        return second;
-    }
-    first
+    list_check(n).and(window_check(n, window))
 }

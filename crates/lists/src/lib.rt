@@ -9,5 +9,5 @@ mod places;
 mod windows;
 
 pub use outcomes::{Choice, SliceOutcome, entry_of, start_of};
-pub use places::{Chosen, EngineChosen, choose, choose_in};
-pub use windows::{EngineSliceStart, SliceStart, rand_slice, rand_slice_in, window_of};
+pub use places::{Entry, choose, choose_in};
+pub use windows::{rand_slice, rand_slice_in, window_of};

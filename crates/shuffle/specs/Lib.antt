@@ -3,6 +3,7 @@
 -- What a reader must believe: the swaps of a list, the shuffle over any words, and its draws performed as far as a budget goes.
 pub mod Swap
 pub mod Shuffle
+pub mod Replies
 pub mod Performing
 -- What the shuffle's promise fixes: one answer and one list, the same at every larger budget, place after place, with the same entries.
 pub mod OneShuffle

@@ -1,7 +1,7 @@
 -- What the shuffle's promise fixes: one answer and one list, the generator after the words used, and when it is refused, and with which
 -- number.
-use Rattle.std.specs.Prelude.{◌≡◌, refl, List, ◌↔◌, ℕ, ◌-◌, ◌≤◌, ◌<◌, length}
-use Rattle.std.proofs.Common.{◌∙◌, ap, lt_of_not-le, arith}
+use Rattle.std.specs.Prelude.{◌≡◌, refl, List, Result, Ok, Err, ◌↔◌, ℕ, ◌-◌, ◌≤◌, ◌<◌, length}
+use Rattle.std.proofs.Common.{◌∙◌, ap, ap₂, lt_of_not-le, arith}
 use Rattle.std.proofs.Math.Decide.{dec_le}
 use Rattle.words.specs.Refusal.{answered, too_long, out_of_budget}
 use Rattle.words.specs.declared.outcome.Outcome.{Outcome}
@@ -9,6 +9,13 @@ use Rattle.words.specs.Draw.{Words, Drawn, all, short, refused, gives, outcome_o
 use Rattle.random.specs.declared.backend.Random.{Random}
 use Rattle.random.specs.Generator.{later, words_of}
 use Rattle.bounded.specs.declared.answers.Answer.{Answer}
+use Rattle.bounded.specs.declared.answers.EngineAnswer.{EngineAnswer}
+use Rattle.random.specs.declared.engine.Engine.{Engine}
+use Rattle.words.specs.declared.refusal.Refusal.{Refusal}
+use Rattle.words.specs.declared.reply.Given.{Given}
+use Rattle.words.specs.declared.reply.Reply.{Reply}
+use Rattle.words.specs.NumbersLaws.{number_positive, one_number}
+use Rattle.shuffle.specs.Replies.{done, done_by, done_in}
 use Rattle.bounded.specs.OneAnswer.{next_after_used}
 use Rattle.lists.specs.Limit.{list_limit}
 use Rattle.shuffle.specs.Swap.{arranged}
@@ -104,3 +111,21 @@ module _ (s : Words) (l : List ℕ) (budget : ℕ) where
       go (too_long_lem h) n = list_long s budget l h
       go (out_of_budget_lem m h e) n = list_drawn s budget l h ∙ ap (list_after l) e
       go (settled places used h e) n = absurd (n refl)
+
+-- ---- the code's answers: two that say the same in document 01's numbers are the same
+
+done_apart : (a b : Result (Given (Unit {0})) Refusal) → done a ≡ done b → a ≡ b
+done_apart (Ok g) (Ok h) e = ap (λ (o : Outcome). Ok (record { value = tt; used = o.used })) e
+done_apart (Err r) (Err q) e = ap Err (one_number (ap (λ (o : Outcome). o.refusal) e))
+done_apart (Ok g) (Err q) e = absurd (let some = number_positive q in omega (arith, some, ap (λ (o : Outcome). o.refusal) e))
+done_apart (Err r) (Ok h) e = absurd (let some = number_positive r in omega (arith, some, ap (λ (o : Outcome). o.refusal) e))
+
+pub done_same_by : (a b : Reply (Unit {0}) Random) → done_by a ≡ done_by b → a ≡ b
+done_same_by a b h =
+    ap₂ (λ (g : Random) (t : Result (Given (Unit {0})) Refusal). record { next = g; told = t }) (ap (λ (x : Answer). x.next) h)
+    (done_apart a.told b.told (ap (λ (x : Answer). record { refusal = x.refusal; value = x.value; used = x.used }) h))
+
+pub done_same_in : (a b : Reply (Unit {0}) Engine) → done_in a ≡ done_in b → a ≡ b
+done_same_in a b h =
+    ap₂ (λ (e : Engine) (t : Result (Given (Unit {0})) Refusal). record { next = e; told = t }) (ap (λ (x : EngineAnswer). x.next) h)
+    (done_apart a.told b.told (ap (λ (x : EngineAnswer). record { refusal = x.refusal; value = x.value; used = x.used }) h))

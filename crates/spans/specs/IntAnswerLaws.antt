@@ -19,7 +19,7 @@ use Rattle.words.specs.Numbers.{numbered}
 use Rattle.bounded.specs.Answers.{answer_from, joined_answer, Below, numbered_in}
 use Rattle.bounded.specs.AnswerLaws.{worked_answers}
 use Rattle.spans.specs.declared.counting.IntOutcome.{IntOutcome}
-use Rattle.spans.specs.declared.ints.IntEngineAnswer.{IntEngineAnswer}
+use Rattle.spans.specs.IntAnswers.{IntEngineAnswer}
 use Rattle.spans.specs.Spans.{signed_by, counted_from, counted_modulo}
 use Rattle.spans.specs.IntAnswers.{int_answer_with, int_answer_from, int_answer_in, int_numbered_in, joined_int}
 

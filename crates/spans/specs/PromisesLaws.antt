@@ -9,12 +9,11 @@ use Rattle.random.specs.declared.backend.Random.{Random}
 use Rattle.random.specs.declared.engine.Engine.{Engine}
 use Rattle.spans.specs.OneIntAnswer.{int_answer_apart}
 use Rattle.spans.specs.Promises.{IntInPromise, IntPromise, RangeInPromise, RangePromise, UintInPromise, UintPromise}
-use Rattle.spans.specs.Promises.{CountedPromise, IntNumberedInPromise}
-use Rattle.words.specs.declared.reply.Reply.{Reply}
+use Rattle.spans.specs.Promises.{CountedPromise}
 use Rattle.words.specs.declared.outcome.Outcome.{Outcome}
 use Rattle.spans.specs.declared.counting.IntOutcome.{IntOutcome}
 use Rattle.spans.specs.IntAnswers.{IntAnswer}
-use Rattle.spans.specs.declared.ints.IntEngineAnswer.{IntEngineAnswer}
+use Rattle.spans.specs.IntAnswers.{IntEngineAnswer}
 
 pub one_counted : (min : ℤ) (o : Outcome) {a b : IntOutcome} → CountedPromise min o a → CountedPromise min o b → a ≡ b
 one_counted min o p q = p ∙ sym q
@@ -41,6 +40,3 @@ one_uint g min max budget p q = p ∙ sym q
 pub one_uint_in : (e : Engine) (mt : List ℕ) (min max budget : ℕ) {a b : EngineAnswer} {mt₁ mt₂ : List ℕ}
     → UintInPromise e mt min max budget a mt₁ → UintInPromise e mt min max budget b mt₂ → (a ≡ b) × (mt₁ ≡ mt₂)
 one_uint_in e mt min max budget p q = answer_apart (one_uint (joined_with e mt) min max budget p q)
-
-pub one_int_numbered_in : (a : Reply ℤ Engine) {r r' : IntEngineAnswer} → IntNumberedInPromise a r → IntNumberedInPromise a r' → r ≡ r'
-one_int_numbered_in a p q = p ∙ sym q

@@ -3,40 +3,11 @@ ghost use Rattle.std.specs.Prelude.{◌≡◌};
 ghost use Rattle.words.specs.Numbers.{numbered};
 ghost use Rattle.spans.specs.IntAnswers.{int_answer_in, int_numbered_by, int_numbered_in};
 ghost use Rattle.spans.specs.Spans.{counted_modulo};
-ghost use Rattle.spans.specs.Promises.{IntInPromise, IntNumberedInPromise, IntPromise, RangeInPromise, RangePromise};
+ghost use Rattle.spans.specs.Promises.{IntInPromise, IntPromise, RangeInPromise, RangePromise};
 
 use crate::span::spanned_in;
 use random::{Engine, Random};
 use words::{Refusal, Reply};
-
-// What an answer says in document 01's numbers: refused, value and used are 0, and next is the engine that came in.
-#[derive(Clone, Copy)]
-pub struct IntEngineAnswer {
-    pub next: Engine,
-    pub refusal: u32,
-    pub value: i32,
-    pub used: u32,
-}
-
-// An answer in document 01's numbers.
-pub fn int_numbered_in(a: Reply<i32, Engine>) -> IntEngineAnswer
-    ensures { IntNumberedInPromise a result }
-{
-    match a.told {
-        Ok(given) => IntEngineAnswer {
-            next: a.next,
-            refusal: words::refusal::ANSWERED,
-            value: given.value,
-            used: given.used,
-        },
-        Err(refusal) => IntEngineAnswer {
-            next: a.next,
-            refusal: refusal.number(),
-            value: 0,
-            used: 0,
-        },
-    }
-}
 
 // What is drawn, counted from min modulo 2^32 and read back as signed.
 fn counted_in(min: i32, a: Reply<u32, Engine>) -> Reply<i32, Engine>

@@ -8,5 +8,5 @@ mod span;
 mod uints;
 
 pub use counting::{IntOutcome, counted};
-pub use ints::{IntEngineAnswer, int, int_in, int_numbered_in, range, range_in};
+pub use ints::{int, int_in, range, range_in};
 pub use uints::{uint, uint_in};

@@ -3,7 +3,5 @@ use Rattle.lists.proofs.places.choose.Goals as goal
 
 pub returns : goal.returns
 returns c =
-    let engine = c.engine_of.ensures in
     let answer = c.choose_in-a.ensures in
-    let whole = rw engine at answer.answer in
-    record { answer = rw c.with_table-next.ensures whole; within = answer.within }
+    record { answer = rw c.by_value.ensures (rw c.engine_of.ensures at answer.answer); within = rw c.by_value.ensures answer.within }

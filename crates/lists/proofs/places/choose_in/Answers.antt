@@ -6,9 +6,8 @@ use Rattle.lists.proofs.places.choose_in.Goals as goal
 pub returns : goal.returns
 unfolding choose_by
 returns c =
-    let told = c.outcome_of.ensures in
     let drawn = c.place_in-a.ensures in
     record {
-      answer = entry_answers _ _ _ drawn.answer told c.entry_of-c.ensures;
-      within = entry_within _ _ told c.entry_of-c.ensures drawn.within;
+      answer = entry_answers _ _ _ _ _ drawn.answer c.entry_in.ensures;
+      within = entry_within _ _ _ _ c.entry_in.ensures drawn.within;
     }

@@ -3,7 +3,5 @@ use Rattle.lists.proofs.windows.rand_slice.Goals as goal
 
 pub returns : goal.returns
 returns c =
-    let engine = c.engine_of.ensures in
     let answer = c.rand_slice_in-a.ensures in
-    let whole = rw engine at answer.answer in
-    record { answer = rw c.with_table-next.ensures whole; room = answer.room }
+    record { answer = rw c.by_value.ensures (rw c.engine_of.ensures at answer.answer); room = rw c.by_value.ensures answer.room }

@@ -4,9 +4,8 @@ use Rattle.lists.proofs.windows.rand_slice_in.Goals as goal
 
 pub returns : goal.returns
 returns c =
-    let told = c.outcome_of.ensures in
-    let drawn = c.start_in-a.ensures in
+    let drawn = c.number_in-a.ensures in
     record {
-      answer = start_answers _ _ drawn.answer told c.start_of-s.ensures;
-      room = start_fits _ _ told c.start_of-s.ensures drawn.room;
+      answer = start_answers _ _ _ _ drawn.answer c.as_start.ensures;
+      room = start_fits _ _ _ _ c.as_start.ensures drawn.room;
     }
