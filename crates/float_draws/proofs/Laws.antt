@@ -1,5 +1,5 @@
 -- The laws of the float draws: what the code over a lent table and by value builds, and what a refusal leaves.
-use Rattle.std.specs.Prelude.{true, false, List, ◌≡◌, refl, ℕ, T, ℤ, Float}
+use Rattle.std.specs.Prelude.{Bool, true, false, List, Result, Ok, Err, ◌≡◌, refl, ℕ, T, ℤ, Float}
 use Rattle.std.proofs.Common.{sym, ◌∙◌, arith}
 use Rattle.std.proofs.Math.Path.{ap}
 use borrow.Author.Tests.{eq-eqb, ne_eqb}
@@ -23,7 +23,11 @@ use Rattle.random.specs.declared.backend.Backend.{Backend}
 use Rattle.random.specs.declared.backend.Backend.TheVariants.{Xoshiro256PlusPlus, MersenneTwister, Pcg32, Pcg64}
 use Rattle.random.specs.declared.engine.EngineWord.{EngineWord}
 use Rattle.random.specs.declared.engine.EngineWord64.{EngineWord64}
-use Rattle.float_draws.specs.Coins.{flip_of, flip_from}
+use Rattle.words.specs.declared.refusal.Refusal.{Refusal}
+use Rattle.words.specs.declared.reply.Given.{Given}
+use Rattle.words.specs.declared.reply.Reply.{Reply}
+use Rattle.random.specs.declared.engine.Engine.{Engine}
+use Rattle.float_draws.specs.Coins.{flip, flip_in, flip_told, flip_told_in, flip_of, flip_from, joined_flip}
 use Rattle.float_draws.specs.Spreads.{spread_from}
 use Rattle.float_draws.specs.Units.{float_from, double_from}
 use Rattle.float_draws.specs.Promises.{UniformPromise}
@@ -67,6 +71,14 @@ module _ (g : Random) (p : Float) where
   pub flip_refused : is_chance p ≡ false → record { refusal = refusal.chance; value = false; used = 0; next = g } ≡ flip_from g p
   unfolding flip_from
   flip_refused c = rw (c, later_none g)
+
+-- what is told stays, by value as over a lent table
+pub flip_joined : (a : Reply Bool Engine) (t : List ℕ) → flip (record { next = joined_with a.next t; told = a.told }) ≡ joined_flip (flip_in a) t
+flip_joined a t = go a.told
+  where
+    go : (told : Result (Given Bool) Refusal) → flip_told told (joined_with a.next t) ≡ joined_flip (flip_told_in told a.next) t
+    go (Ok g) = refl
+    go (Err r) = refl
 
 module _ (g : Random) (i : Interval) where
   -- the number of the 64-bit word, where the interval is taken

@@ -1,17 +1,21 @@
 -- Each promise leaves one answer: two that both meet it are equal.
-use Rattle.std.specs.Prelude.{List, ◌≡◌, ℕ, Float}
-use Rattle.std.proofs.Common.{sym, ◌∙◌, ap}
+use Rattle.std.specs.Prelude.{Bool, List, Result, Ok, Err, ◌≡◌, refl, ℕ, Float}
+use Rattle.std.proofs.Common.{sym, ◌∙◌, ap, ap₂, arith}
 use Rattle.floats.specs.declared.intervals.Interval.{Interval}
 use Rattle.random.specs.Lent.{engine_in, table_in}
 use Rattle.random.specs.declared.backend.Random.{Random}
 use Rattle.random.specs.declared.engine.Engine.{Engine}
-use Rattle.float_draws.specs.Coins.{joined_flip}
+use Rattle.words.specs.declared.refusal.Refusal.{Refusal}
+use Rattle.words.specs.declared.reply.Given.{Given}
+use Rattle.words.specs.declared.reply.Reply.{Reply}
+use Rattle.words.specs.NumbersLaws.{number_positive, one_number}
+use Rattle.float_draws.specs.Coins.{flip, flip_told, joined_flip}
 use Rattle.float_draws.specs.Promises.{BoolInPromise, BoolPromise, DoubleInPromise, DoublePromise, FloatInPromise, FloatPromise}
 use Rattle.float_draws.specs.Promises.{UniformInPromise, UniformPromise}
 use Rattle.float_draws.specs.Spreads.{joined_spread}
 use Rattle.float_draws.specs.Units.{joined_double, joined_float}
-use Rattle.float_draws.specs.declared.coins.EngineFlip.{EngineFlip}
-use Rattle.float_draws.specs.declared.coins.Flip.{Flip}
+use Rattle.float_draws.specs.Coins.{EngineFlip}
+use Rattle.float_draws.specs.Coins.{Flip}
 use Rattle.float_draws.specs.declared.intervals.EngineSpread.{EngineSpread}
 use Rattle.float_draws.specs.declared.intervals.Spread.{Spread}
 use Rattle.float_draws.specs.declared.units.Drawn32.{Drawn32}
@@ -74,3 +78,21 @@ one_float g p q = p ∙ sym q
 
 pub one_double : (g : Random) {a b : Drawn64} → DoublePromise g a → DoublePromise g b → a ≡ b
 one_double g p q = p ∙ sym q
+
+-- ---- two answers of `bool` that say the same in document 01's numbers are the same
+
+told_apart : (a b : Result (Given Bool) Refusal) (g h : Random) → flip_told a g ≡ flip_told b h → a ≡ b
+told_apart (Ok x) (Ok y) g h e = ap (λ (f : Flip). Ok (record { value = f.value; used = f.used })) e
+told_apart (Err r) (Err q) g h e = ap Err (one_number (ap (λ (f : Flip). f.refusal) e))
+told_apart (Ok x) (Err q) g h e = absurd (let some = number_positive q in omega (arith, some, ap (λ (f : Flip). f.refusal) e))
+told_apart (Err r) (Ok y) g h e = absurd (let some = number_positive r in omega (arith, some, ap (λ (f : Flip). f.refusal) e))
+
+next_told : (a : Result (Given Bool) Refusal) (g : Random) → (flip_told a g).next ≡ g
+next_told (Ok x) g = refl
+next_told (Err r) g = refl
+
+pub flip_same : (a b : Reply Bool Random) → flip a ≡ flip b → a ≡ b
+flip_same a b h =
+    ap₂ (λ (g : Random) (t : Result (Given Bool) Refusal). record { next = g; told = t })
+    (sym (next_told a.told a.next) ∙ ap (λ (f : Flip). f.next) h ∙ next_told b.told b.next)
+    (told_apart a.told b.told a.next b.next h)

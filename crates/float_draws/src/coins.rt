@@ -1,28 +1,11 @@
 // `bool`: one double is drawn, also at p = 0 and 1, and asked whether it is below p.
 ghost use Rattle.std.specs.Prelude.{◌≡◌};
 ghost use Rattle.random.specs.Generator.{steps64};
+ghost use Rattle.float_draws.specs.Coins.{flip, flip_in};
 ghost use Rattle.float_draws.specs.Promises.{BoolInPromise, BoolPromise};
 
 use random::{Backend, Engine, Random, engine_of, with_table};
-use words::refusal;
-
-// Refusal 0 where it is answered; refused, the value is false, no word is used, and the generator is the one that came in.
-#[derive(Clone, Copy)]
-pub struct Flip {
-    pub refusal: u32,
-    pub value: bool,
-    pub used: u32,
-    pub next: Random,
-}
-
-// The same over a lent table.
-#[derive(Clone, Copy)]
-pub struct EngineFlip {
-    pub refusal: u32,
-    pub value: bool,
-    pub used: u32,
-    pub next: Engine,
-}
+use words::{Refusal, Reply};
 
 // How many words a 64-bit word takes.
 fn steps(backend: Backend) -> u32
@@ -32,43 +15,25 @@ fn steps(backend: Backend) -> u32
 }
 
 // Whether the double of the next 64-bit word is below p; where p is no chance, nothing is drawn.
-pub fn bool_in(e: Engine, mt: &mut [u32; 624], p: f64) -> EngineFlip
-    ensures { BoolInPromise e mt.old p result mt.new }
+pub fn bool_in(e: Engine, mt: &mut [u32; 624], p: f64) -> Reply<bool, Engine>
+    ensures { BoolInPromise e mt.old p (flip_in result) mt.new }
 {
     if floats::is_chance(p) {
-        let backend = e.backend;
-        let used = steps(backend);
+        let used = steps(e.backend);
         let d = random::next_u64(e, mt);
-        let next = d.next;
-        let coin = floats::chance(p, d.word);
-        return EngineFlip {
-            refusal: coin.refusal,
-            value: coin.value,
-            used,
-            next,
-        };
+        return Reply::gives(floats::double_of(d.word) < p, used, d.next);
     }
-    EngineFlip {
-        refusal: refusal::CHANCE,
-        value: false,
-        used: 0,
-        next: e,
-    }
+    Reply::refuses(Refusal::Chance, e)
 }
 
 // The same by value.
-pub fn bool(g: Random, p: f64) -> Flip
-    ensures { BoolPromise g p result }
+pub fn bool(g: Random, p: f64) -> Reply<bool, Random>
+    ensures { BoolPromise g p (flip result) }
 {
     let mut moved = g;
-    let d = bool_in(engine_of(g), &mut moved.twister.mt, p);
-    let e = d.next;
-    let mt = moved.twister.mt;
-    let next = with_table(e, mt);
-    Flip {
-        refusal: d.refusal,
-        value: d.value,
-        used: d.used,
-        next,
+    let a = bool_in(engine_of(g), &mut moved.twister.mt, p);
+    Reply {
+        next: with_table(a.next, moved.twister.mt),
+        told: a.told,
     }
 }

@@ -3,7 +3,6 @@ ghost use Rattle.float_draws.specs.Promises.{NeverMinusZero, UniformInPromise, U
 
 use floats::{Interval, Uniform};
 use random::{Engine, Random, engine_of, with_table};
-use words::refusal;
 
 // The number drawn or the refusal's number, and the generator after it; refused, the one that came in.
 #[derive(Clone, Copy)]
@@ -23,16 +22,18 @@ pub struct EngineSpread {
 pub fn uniform_in(e: Engine, mt: &mut [u32; 624], i: Interval) -> EngineSpread
     ensures { UniformInPromise e mt.old i result mt.new }
 {
-    let refused = floats::interval_refusal(i);
-    if refused == refusal::ANSWERED {
-        let d = random::next_u64(e, mt);
-        let next = d.next;
-        let answer = floats::uniform_of(i, d.word);
-        return EngineSpread { answer, next };
-    }
-    EngineSpread {
-        answer: Uniform::Refused(refused),
-        next: e,
+    match floats::interval_refusal(i) {
+        None => {
+            let d = random::next_u64(e, mt);
+            EngineSpread {
+                answer: floats::uniform_of(i, d.word),
+                next: d.next,
+            }
+        }
+        Some(refusal) => EngineSpread {
+            answer: Uniform::Refused(refusal.number()),
+            next: e,
+        },
     }
 }
 

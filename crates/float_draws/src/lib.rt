@@ -6,7 +6,7 @@ mod coins;
 mod intervals;
 mod units;
 
-pub use coins::{EngineFlip, Flip, bool, bool_in};
+pub use coins::{bool, bool_in};
 pub use intervals::{EngineSpread, Spread, uniform, uniform_in};
 pub use units::{
     Drawn32, Drawn64, EngineDrawn32, EngineDrawn64, double, double_in, float, float_in,

@@ -7,7 +7,7 @@ use Rattle.words.specs.Table.{Holds, end, ◌&◌}
 use Rattle.floats.specs.Units.{dyadic}
 use Rattle.floats.specs.Chances.{is_chance, coin_of}
 use Rattle.floats.specs.Intervals.{interval_refusal, number_in, uniform_of}
-use Rattle.floats.specs.declared.chances.Coin.{Coin}
+use Rattle.floats.specs.Chances.{Coin}
 use Rattle.floats.specs.declared.intervals.Interval.{Interval}
 use Rattle.floats.specs.declared.intervals.Uniform.TheVariants.{Number, Refused}
 use Rattle.floats.specs.Bench.{float_bench}

@@ -3,7 +3,7 @@ use Rattle.std.specs.Prelude.{Bool, ◌≡◌, ℕ, Float}
 use Rattle.floats.specs.Chances.{chance_refusal, coin_of, is_chance}
 use Rattle.floats.specs.Intervals.{ends_are_finite, interval_refusal, is_out_of_order, uniform_of}
 use Rattle.floats.specs.Units.{double_of, float_of}
-use Rattle.floats.specs.declared.chances.Coin.{Coin}
+use Rattle.floats.specs.Chances.{Coin}
 use Rattle.floats.specs.declared.intervals.Interval.{Interval}
 use Rattle.floats.specs.declared.intervals.Uniform.{Uniform}
 

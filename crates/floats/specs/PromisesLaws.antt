@@ -3,7 +3,7 @@ use Rattle.std.specs.Prelude.{Bool, ◌≡◌, ℕ, Float}
 use Rattle.std.proofs.Common.{sym, ◌∙◌}
 use Rattle.floats.specs.Promises.{ChancePromise, ChanceRefusalPromise, DoubleOfPromise, EndsAreFinitePromise, FloatOfPromise}
 use Rattle.floats.specs.Promises.{IntervalRefusalPromise, IsChancePromise, IsOutOfOrderPromise, UniformOfPromise}
-use Rattle.floats.specs.declared.chances.Coin.{Coin}
+use Rattle.floats.specs.Chances.{Coin}
 use Rattle.floats.specs.declared.intervals.Interval.{Interval}
 use Rattle.floats.specs.declared.intervals.Uniform.{Uniform}
 

@@ -2,10 +2,11 @@
 ghost use Rattle.std.specs.Prelude.{◌≡◌};
 ghost use Rattle.std.specs.Float.Ieee.Scale.{finite};
 ghost use Rattle.floats.specs.Intervals.{number_in};
+ghost use Rattle.words.specs.Numbers.{refusal_in};
 ghost use Rattle.floats.specs.Promises.{EndsAreFinitePromise, IsOutOfOrderPromise, IntervalRefusalPromise, UniformOfPromise};
 
 use super::units::double_of;
-use words::refusal;
+use words::Refusal;
 
 // A low end and a high end, kept together.
 #[repr(C)]
@@ -15,7 +16,7 @@ pub struct Interval {
     pub high: f64,
 }
 
-// The number drawn, or the refusal's number.
+// The number drawn, or the refusal's number: document 01 names this form.
 #[derive(Clone, Copy)]
 pub enum Uniform {
     Number(f64),
@@ -48,20 +49,20 @@ pub fn is_out_of_order(i: Interval) -> bool
     i.low >= i.high
 }
 
-// What a caller asks before it draws the word: 0 where the interval is taken. The first fault that there is gives the number.
-pub fn interval_refusal(i: Interval) -> u32
-    ensures { IntervalRefusalPromise i result }
+// What a caller asks before it draws the word: the first fault that there is.
+pub fn interval_refusal(i: Interval) -> Option<Refusal>
+    ensures { IntervalRefusalPromise i (refusal_in result) }
 {
     if !ends_are_finite(i) {
-        return refusal::NOT_FINITE;
+        return Some(Refusal::NotFinite);
     }
     if is_out_of_order(i) {
-        return refusal::ORDER;
+        return Some(Refusal::Order);
     }
     if is_finite(i.high - i.low) {
-        0
+        None
     } else {
-        refusal::NOT_FINITE
+        Some(Refusal::NotFinite)
     }
 }
 
@@ -79,10 +80,8 @@ fn number_in(i: Interval, word: u64) -> f64
 pub fn uniform_of(i: Interval, word: u64) -> Uniform
     ensures { UniformOfPromise i word result }
 {
-    let refused = interval_refusal(i);
-    if refused == 0 {
-        Uniform::Number(number_in(i, word))
-    } else {
-        Uniform::Refused(refused)
+    match interval_refusal(i) {
+        None => Uniform::Number(number_in(i, word)),
+        Some(refusal) => Uniform::Refused(refusal.number()),
     }
 }

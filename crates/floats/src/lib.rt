@@ -5,7 +5,7 @@ mod chances;
 mod intervals;
 mod units;
 
-pub use chances::{Coin, chance, chance_refusal, is_chance};
+pub use chances::{chance, chance_refusal, is_chance};
 pub use intervals::{
     Interval, Uniform, ends_are_finite, interval_refusal, is_out_of_order, uniform_of,
 };

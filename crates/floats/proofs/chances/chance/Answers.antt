@@ -1,5 +1,5 @@
 -- `chance` meets its contract: the code's test is the definition's, and so is the comparison with p.
-use mathlib.Core.Path.{sym, ◌∙◌}
+use Rattle.std.proofs.Common.{sym, ◌∙◌}
 use Rattle.floats.proofs.chances.chance.Goals as goal
 
 pub returns-then-is_chance : goal.returns-then-is_chance
