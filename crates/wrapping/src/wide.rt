@@ -16,10 +16,12 @@ impl Wide {
     pub fn wrapping_add(self, other: Wide) -> Wide
         ensures { WideWrappingAddPromise self other result }
     {
-        let (low, carry) = self.low.overflowing_add(other.low);
+        let low = self.low.wrapping_add(other.low);
         let high = self.high.wrapping_add(other.high);
+        // a test, and not `overflowing_add`: of this the compiler makes an addition with carry in Pcg64's loops too
+        let carry = u64::from(low < other.low);
         Wide {
-            high: high.wrapping_add(u64::from(carry)),
+            high: high.wrapping_add(carry),
             low,
         }
     }
