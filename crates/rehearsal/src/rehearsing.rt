@@ -6,7 +6,7 @@ ghost use Rattle.rehearsal.specs.Rehearsal.{tell};
 ghost use Rattle.rehearsal.specs.Kinds.{ToldOf, TwisterTold};
 ghost use Rattle.rehearsal.specs.Promises.{RehearsePromise, RehearseTablePromise};
 
-use crate::settling::next_bound;
+use crate::settling::bound_after;
 use crate::turns::Draws;
 use pcg::{Pcg32, Pcg64};
 use random::{Backend, Engine};
@@ -44,7 +44,7 @@ fn xoshiro_run(x: Xoshiro256PlusPlus, d: Draws) -> Rehearsed
         let w = next.next_u32();
         if words::is_good(w.word, bound) {
             settled += 1;
-            bound = next_bound(bound, d.falls);
+            bound = bound_after(bound, d.falls, 1);
         }
         next = w.next;
         used += 1;
@@ -66,7 +66,7 @@ fn pcg32_run(p: Pcg32, d: Draws) -> Rehearsed
         let w = next.next_u32();
         if words::is_good(w.word, bound) {
             settled += 1;
-            bound = next_bound(bound, d.falls);
+            bound = bound_after(bound, d.falls, 1);
         }
         next = w.next;
         used += 1;
@@ -88,7 +88,7 @@ fn pcg64_run(p: Pcg64, d: Draws) -> Rehearsed
         let w = next.next_u32();
         if words::is_good(w.word, bound) {
             settled += 1;
-            bound = next_bound(bound, d.falls);
+            bound = bound_after(bound, d.falls, 1);
         }
         next = w.next;
         used += 1;
@@ -111,7 +111,7 @@ fn twister_run(mt: &mut [u32; 624], mti: u32, d: Draws) -> Rehearsed
         let s = mersenne_twister::rand_in(mt, at);
         if words::is_good(s.word, bound) {
             settled += 1;
-            bound = next_bound(bound, d.falls);
+            bound = bound_after(bound, d.falls, 1);
         }
         at = s.mti;
         used += 1;

@@ -30,7 +30,7 @@ loop-settled-preserved c =
     λ t. looking_on (c.loop-settled.invariant t) c.loop-settled-test.true (omega (arith, c.if-d-used.false))
     (pcg32_next c.next_u32-w.ensures t)
     (elim c.if-is_good.branch [
-      | then-is_good w ↦ inl (sym good ∙ w.if-is_good.true, w.settled-is, w.bound-is ∙ w.next_bound-bound.ensures)
+      | then-is_good w ↦ inl (sym good ∙ w.if-is_good.true, w.settled-is, w.bound-is ∙ w.bound_after-bound.ensures)
       | else-is_good w ↦ inr (sym good ∙ w.if-is_good.false, w.settled-is, w.bound-is)
     ])
 

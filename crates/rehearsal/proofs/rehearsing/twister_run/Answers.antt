@@ -29,7 +29,7 @@ loop-settled-preserved c =
     let good = c.is_good.ensures in
     looking_on c.loop-settled.invariant c.loop-settled-test.true (omega (arith, c.if-d-used.false)) (twister_next_lem c.rand_in-s.ensures)
     (elim c.if-is_good.branch [
-      | then-is_good w ↦ inl (sym good ∙ w.if-is_good.true, w.settled-is, w.bound-is ∙ w.next_bound-bound.ensures)
+      | then-is_good w ↦ inl (sym good ∙ w.if-is_good.true, w.settled-is, w.bound-is ∙ w.bound_after-bound.ensures)
       | else-is_good w ↦ inr (sym good ∙ w.if-is_good.false, w.settled-is, w.bound-is)
     ])
 
