@@ -9,14 +9,12 @@ use Rattle.words.specs.Draw.{Words}
 use Rattle.mersenne_twister.specs.Table as twister
 use Rattle.mersenne_twister.specs.declared.Drawn32 as twister_drawn
 use Rattle.mersenne_twister.specs.declared.table.Step.{Step}
+use Rattle.source.specs.declared.Drawn.{Drawn}
 use Rattle.pcg.specs.Pcg32 as pcg32
 use Rattle.pcg.specs.Pcg64 as pcg64
-use Rattle.pcg.specs.declared.pcg32.Drawn32 as pcg32_drawn
 use Rattle.pcg.specs.declared.pcg32.Pcg32 as pcg32_type
-use Rattle.pcg.specs.declared.pcg64.Drawn32 as pcg64_drawn
 use Rattle.pcg.specs.declared.pcg64.Pcg64 as pcg64_type
 use Rattle.xoshiro.specs.Generator as xoshiro
-use Rattle.xoshiro.specs.declared.Drawn32 as xoshiro_drawn
 use Rattle.xoshiro.specs.declared.Xoshiro256PlusPlus as xoshiro_type
 use Rattle.random.specs.declared.backend.Backend.TheVariants.{Xoshiro256PlusPlus, MersenneTwister, Pcg32, Pcg64}
 use Rattle.random.specs.declared.backend.Random.{Random}
@@ -86,28 +84,28 @@ pub put_all : {g h : Random} {l l' : List ℕ} → WordsPut g (length l) l l' h
 put_all {l = l} p = (p.words ∙ rw (drop_all (length l) l (omega arith), append-nil), p.moved)
 
 -- one more of each kind, as the kind's own call draws it
-pub xoshiro_more : {x y : xoshiro_type.Xoshiro256PlusPlus} {n : ℕ} {l l' : List ℕ} {d : xoshiro_drawn.Drawn32} → n < length l
+pub xoshiro_more : {x y : xoshiro_type.Xoshiro256PlusPlus} {n : ℕ} {l l' : List ℕ} {d : Drawn ℕ xoshiro_type.Xoshiro256PlusPlus} → n < length l
     → XoshiroPut x n l l' y → d ≡ xoshiro.drawn_high y → XoshiroPut x (n + 1) l (set l' n d.word) d.next
 unfolding word_of step
 xoshiro_more more p e t =
-    put_more more (p t) (ap (λ (d : xoshiro_drawn.Drawn32). d.word) e)
-    (ap (λ (d : xoshiro_drawn.Drawn32). gen (Xoshiro256PlusPlus d.next) t) e)
+    put_more more (p t) (ap (λ (d : Drawn ℕ xoshiro_type.Xoshiro256PlusPlus). d.word) e)
+    (ap (λ (d : Drawn ℕ xoshiro_type.Xoshiro256PlusPlus). gen (Xoshiro256PlusPlus d.next) t) e)
 
 -- The same of Pcg32.
-pub pcg32_more : {p q : pcg32_type.Pcg32} {n : ℕ} {l l' : List ℕ} {d : pcg32_drawn.Drawn32} → n < length l
+pub pcg32_more : {p q : pcg32_type.Pcg32} {n : ℕ} {l l' : List ℕ} {d : Drawn ℕ pcg32_type.Pcg32} → n < length l
     → Pcg32Put p n l l' q → d ≡ pcg32.drawn q → Pcg32Put p (n + 1) l (set l' n d.word) d.next
 unfolding word_of step
 pcg32_more more p e t =
-    put_more more (p t) (ap (λ (d : pcg32_drawn.Drawn32). d.word) e)
-    (ap (λ (d : pcg32_drawn.Drawn32). gen (Pcg32 d.next) t) e)
+    put_more more (p t) (ap (λ (d : Drawn ℕ pcg32_type.Pcg32). d.word) e)
+    (ap (λ (d : Drawn ℕ pcg32_type.Pcg32). gen (Pcg32 d.next) t) e)
 
 -- The same of Pcg64, by the high half of its word.
-pub pcg64_more : {p q : pcg64_type.Pcg64} {n : ℕ} {l l' : List ℕ} {d : pcg64_drawn.Drawn32} → n < length l
+pub pcg64_more : {p q : pcg64_type.Pcg64} {n : ℕ} {l l' : List ℕ} {d : Drawn ℕ pcg64_type.Pcg64} → n < length l
     → Pcg64Put p n l l' q → d ≡ pcg64.drawn_high q → Pcg64Put p (n + 1) l (set l' n d.word) d.next
 unfolding word_of step
 pcg64_more more p e t =
-    put_more more (p t) (ap (λ (d : pcg64_drawn.Drawn32). d.word) e)
-    (ap (λ (d : pcg64_drawn.Drawn32). gen (Pcg64 d.next) t) e)
+    put_more more (p t) (ap (λ (d : Drawn ℕ pcg64_type.Pcg64). d.word) e)
+    (ap (λ (d : Drawn ℕ pcg64_type.Pcg64). gen (Pcg64 d.next) t) e)
 
 -- The same of the twister, whose table is lent: the step leaves the word and the next position.
 pub twister_more : {m m' m'' : List ℕ} {p p' n : ℕ} {l l' : List ℕ} {s : Step} → n < length l

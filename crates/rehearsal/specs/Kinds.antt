@@ -6,14 +6,12 @@ use Rattle.mersenne_twister.specs.Table as twister
 use Rattle.mersenne_twister.specs.declared.Drawn32 as twister_drawn
 use Rattle.mersenne_twister.specs.declared.MersenneTwister as twister_type
 use Rattle.mersenne_twister.specs.declared.table.Step.{Step}
+use Rattle.source.specs.declared.Drawn.{Drawn}
 use Rattle.pcg.specs.Pcg32 as pcg32
 use Rattle.pcg.specs.Pcg64 as pcg64
-use Rattle.pcg.specs.declared.pcg32.Drawn32 as pcg32_drawn
 use Rattle.pcg.specs.declared.pcg32.Pcg32 as pcg32_type
-use Rattle.pcg.specs.declared.pcg64.Drawn32 as pcg64_drawn
 use Rattle.pcg.specs.declared.pcg64.Pcg64 as pcg64_type
 use Rattle.xoshiro.specs.Generator as xoshiro
-use Rattle.xoshiro.specs.declared.Drawn32 as xoshiro_drawn
 use Rattle.xoshiro.specs.declared.Xoshiro256PlusPlus as xoshiro_type
 use Rattle.random.specs.declared.backend.Backend.{Backend}
 use Rattle.random.specs.declared.backend.Backend.TheVariants.{Xoshiro256PlusPlus, MersenneTwister, Pcg32, Pcg64}
@@ -40,28 +38,28 @@ abbrev pub NextOf : Backend → ℕ → Backend → Type 0
 NextOf kind w next = (t : twister_type.MersenneTwister) → NextWord (gen kind t) w (gen next t)
 
 -- the word of Xoshiro256++
-pub xoshiro_next : {x : xoshiro_type.Xoshiro256PlusPlus} {r : xoshiro_drawn.Drawn32} → r ≡ xoshiro.drawn_high x
+pub xoshiro_next : {x : xoshiro_type.Xoshiro256PlusPlus} {r : Drawn ℕ xoshiro_type.Xoshiro256PlusPlus} → r ≡ xoshiro.drawn_high x
     → NextOf (Xoshiro256PlusPlus x) r.word (Xoshiro256PlusPlus r.next)
 unfolding word_of step
 xoshiro_next e t = record {
-  word = ap (λ (r : xoshiro_drawn.Drawn32). r.word) e;
-  moved = ap (λ (r : xoshiro_drawn.Drawn32). gen (Xoshiro256PlusPlus r.next) t) e;
+  word = ap (λ (r : Drawn ℕ xoshiro_type.Xoshiro256PlusPlus). r.word) e;
+  moved = ap (λ (r : Drawn ℕ xoshiro_type.Xoshiro256PlusPlus). gen (Xoshiro256PlusPlus r.next) t) e;
 }
 
 -- of Pcg32
-pub pcg32_next : {p : pcg32_type.Pcg32} {r : pcg32_drawn.Drawn32} → r ≡ pcg32.drawn p → NextOf (Pcg32 p) r.word (Pcg32 r.next)
+pub pcg32_next : {p : pcg32_type.Pcg32} {r : Drawn ℕ pcg32_type.Pcg32} → r ≡ pcg32.drawn p → NextOf (Pcg32 p) r.word (Pcg32 r.next)
 unfolding word_of step
 pcg32_next e t = record {
-  word = ap (λ (r : pcg32_drawn.Drawn32). r.word) e;
-  moved = ap (λ (r : pcg32_drawn.Drawn32). gen (Pcg32 r.next) t) e;
+  word = ap (λ (r : Drawn ℕ pcg32_type.Pcg32). r.word) e;
+  moved = ap (λ (r : Drawn ℕ pcg32_type.Pcg32). gen (Pcg32 r.next) t) e;
 }
 
 -- of Pcg64, the high half of its own
-pub pcg64_next : {p : pcg64_type.Pcg64} {r : pcg64_drawn.Drawn32} → r ≡ pcg64.drawn_high p → NextOf (Pcg64 p) r.word (Pcg64 r.next)
+pub pcg64_next : {p : pcg64_type.Pcg64} {r : Drawn ℕ pcg64_type.Pcg64} → r ≡ pcg64.drawn_high p → NextOf (Pcg64 p) r.word (Pcg64 r.next)
 unfolding word_of step
 pcg64_next e t = record {
-  word = ap (λ (r : pcg64_drawn.Drawn32). r.word) e;
-  moved = ap (λ (r : pcg64_drawn.Drawn32). gen (Pcg64 r.next) t) e;
+  word = ap (λ (r : Drawn ℕ pcg64_type.Pcg64). r.word) e;
+  moved = ap (λ (r : Drawn ℕ pcg64_type.Pcg64). gen (Pcg64 r.next) t) e;
 }
 
 -- and of the twister, whose table is lent

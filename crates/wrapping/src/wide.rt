@@ -5,7 +5,7 @@ use super::product::upper_u64;
 
 // The high and the low word of 64 bits.
 #[repr(C)]
-#[derive(Clone, Copy)]
+#[derive(Clone, Copy, PartialEq, Eq, Debug)]
 pub struct Wide {
     pub high: u64,
     pub low: u64,
