@@ -15,15 +15,6 @@ returns-then-d-used c =
     let h = c.loop-settled.invariant in
     c.told.ensures ∙ standing_short h.standing c.loop-settled-test.true c.if-d-used.true
 
-pub overflow_add-settled : goal.overflow_add-settled
-overflow_add-settled c = omega arith
-
-pub overflow_add-used : goal.overflow_add-used
-overflow_add-used c = omega arith
-
-pub loop-settled-smaller : goal.loop-settled-smaller
-loop-settled-smaller c = omega arith
-
 pub loop-settled-preserved : goal.loop-settled-preserved
 loop-settled-preserved c =
     let good = c.is_good.ensures in
