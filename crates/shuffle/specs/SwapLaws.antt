@@ -1,7 +1,5 @@
 -- The laws of swaps: by their cases, the length that stays, and one place more.
 use Rattle.std.specs.Prelude.{◌≡◌, Bool, ◌&&◌, List, [], ◌∷◌, ◌++◌, ℕ, suc, ◌+◌, ◌-◌, ◌≤◌, ◌<◌, get_or, set, take}
-use Rattle.std.specs.List.{swap}
-use Rattle.std.proofs.lemmas.List.Edits.{swap_is}
 use Rattle.std.proofs.Math.Path.{refl}
 use Rattle.std.proofs.Common.{sym, ◌∙◌, ap, arith, add-one, length-take-le, take_all, take-suc}
 use Rattle.std.proofs.Math.Bool.{true, false, cond}
@@ -15,10 +13,6 @@ module _ (l : List ℕ) (i j : ℕ) where
   pub swap_inside : i < length l → j < length l → swapped l i j ≡ set (set l i (get_or l j 0)) j (get_or l i 0)
   unfolding swapped
   swap_inside h k = rw (lt-ltb i (length l) h, lt-ltb j (length l) k)
-
-  -- as std's swap has it;
-  pub swap_there : i < length l → j < length l → swap l i j ≡ swapped l i j
-  swap_there h k = sym (swap_is l i j 0 h k) ∙ sym (swap_inside h k)
 
   -- or one is past its end.
   pub swap_first_outside : length l ≤ i → swapped l i j ≡ l
