@@ -8,21 +8,17 @@ use Rattle.std.proofs.lemmas.List.{set_at, get_or_at}
 use Rattle.words.specs.Draw.{Words}
 use Rattle.mersenne_twister.specs.Table as twister
 use Rattle.mersenne_twister.specs.declared.Drawn32 as twister_drawn
+use Rattle.mersenne_twister.specs.declared.MersenneTwister as twister_type
 use Rattle.mersenne_twister.specs.declared.table.Step.{Step}
+use Rattle.source.specs.declared.Drawn.{Drawn}
 use Rattle.pcg.specs.Pcg32 as pcg32
 use Rattle.pcg.specs.Pcg64 as pcg64
-use Rattle.pcg.specs.declared.pcg32.Drawn32 as pcg32_drawn
-use Rattle.pcg.specs.declared.pcg32.Pcg32 as pcg32_type
-use Rattle.pcg.specs.declared.pcg64.Drawn32 as pcg64_drawn
-use Rattle.pcg.specs.declared.pcg64.Pcg64 as pcg64_type
 use Rattle.xoshiro.specs.Generator as xoshiro
-use Rattle.xoshiro.specs.declared.Drawn32 as xoshiro_drawn
-use Rattle.xoshiro.specs.declared.Xoshiro256PlusPlus as xoshiro_type
 use Rattle.random.specs.declared.backend.Backend.TheVariants.{Xoshiro256PlusPlus, MersenneTwister, Pcg32, Pcg64}
 use Rattle.random.specs.declared.backend.Random.{Random}
 use Rattle.random.specs.Generator.{gen, word_of, words_of, step, later}
 use Rattle.random.specs.GeneratorLaws.{later_none, later_one, word_at}
-use Rattle.ahead.specs.Ahead.{first_words, WordsPut, XoshiroPut, Pcg32Put, Pcg64Put, TwisterPut}
+use Rattle.ahead.specs.Ahead.{first_words, WordsPut, Holds, SourcePut, TwisterPut}
 
 -- ---- the first words of a sequence
 
@@ -85,31 +81,32 @@ pub put_all : {g h : Random} {l l' : List ℕ} → WordsPut g (length l) l l' h
     → (l' ≡ first_words (words_of g) (length l)) × (h ≡ later (length l) g)
 put_all {l = l} p = (p.words ∙ rw (drop_all (length l) l (omega arith), append-nil), p.moved)
 
--- one more of each kind, as the kind's own call draws it
-pub xoshiro_more : {x y : xoshiro_type.Xoshiro256PlusPlus} {n : ℕ} {l l' : List ℕ} {d : xoshiro_drawn.Drawn32} → n < length l
-    → XoshiroPut x n l l' y → d ≡ xoshiro.drawn_high y → XoshiroPut x (n + 1) l (set l' n d.word) d.next
-unfolding word_of step
-xoshiro_more more p e t =
-    put_more more (p t) (ap (λ (d : xoshiro_drawn.Drawn32). d.word) e)
-    (ap (λ (d : xoshiro_drawn.Drawn32). gen (Xoshiro256PlusPlus d.next) t) e)
+-- ---- the sources
 
--- The same of Pcg32.
-pub pcg32_more : {p q : pcg32_type.Pcg32} {n : ℕ} {l l' : List ℕ} {d : pcg32_drawn.Drawn32} → n < length l
-    → Pcg32Put p n l l' q → d ≡ pcg32.drawn q → Pcg32Put p (n + 1) l (set l' n d.word) d.next
+-- Each kind's source is held by the generator of its kind, whatever twister stands beside it.
+pub xoshiro_holds : (t : twister_type.MersenneTwister) → Holds xoshiro.drawn_high (λ x. gen (Xoshiro256PlusPlus x) t)
 unfolding word_of step
-pcg32_more more p e t =
-    put_more more (p t) (ap (λ (d : pcg32_drawn.Drawn32). d.word) e)
-    (ap (λ (d : pcg32_drawn.Drawn32). gen (Pcg32 d.next) t) e)
+xoshiro_holds t = record { word = λ x. refl; moved = λ x. refl }
 
--- The same of Pcg64, by the high half of its word.
-pub pcg64_more : {p q : pcg64_type.Pcg64} {n : ℕ} {l l' : List ℕ} {d : pcg64_drawn.Drawn32} → n < length l
-    → Pcg64Put p n l l' q → d ≡ pcg64.drawn_high q → Pcg64Put p (n + 1) l (set l' n d.word) d.next
+pub pcg32_holds : (t : twister_type.MersenneTwister) → Holds pcg32.drawn (λ p. gen (Pcg32 p) t)
 unfolding word_of step
-pcg64_more more p e t =
-    put_more more (p t) (ap (λ (d : pcg64_drawn.Drawn32). d.word) e)
-    (ap (λ (d : pcg64_drawn.Drawn32). gen (Pcg64 d.next) t) e)
+pcg32_holds t = record { word = λ p. refl; moved = λ p. refl }
 
--- The same of the twister, whose table is lent: the step leaves the word and the next position.
+pub pcg64_holds : (t : twister_type.MersenneTwister) → Holds pcg64.drawn_high (λ p. gen (Pcg64 p) t)
+unfolding word_of step
+pcg64_holds t = record { word = λ p. refl; moved = λ p. refl }
+
+-- Before the first word nothing of a source is put,
+pub source_none : {A : Type 0} {draw : A → Drawn ℕ A} {x : A} {l : List ℕ} → SourcePut draw x 0 l l x
+source_none f h = put_none
+
+-- and then one word more.
+pub source_more : {A : Type 0} {draw : A → Drawn ℕ A} {x y : A} {n : ℕ} {l l' : List ℕ} {d : Drawn ℕ A} → n < length l
+    → SourcePut draw x n l l' y → d ≡ draw y → SourcePut draw x (n + 1) l (set l' n d.word) d.next
+source_more {A} {y = y} more p e f h =
+    put_more more (p f h) (ap (λ (d : Drawn ℕ A). d.word) e ∙ h.word y) (ap (λ (d : Drawn ℕ A). f d.next) e ∙ h.moved y)
+
+-- One word more of the twister, whose table is lent: the step leaves the word and the next position.
 pub twister_more : {m m' m'' : List ℕ} {p p' n : ℕ} {l l' : List ℕ} {s : Step} → n < length l
     → TwisterPut m p n l l' m' p' → twister.stepped s m'' ≡ twister.drawn_in m' p' → TwisterPut m p (n + 1) l (set l' n s.word) m'' s.mti
 unfolding word_of step

@@ -1,68 +1,36 @@
-// The next words of a generator, one for each entry of a list, over a lent table. Each kind has a loop of its own, so code that takes many
-// words asks for the kind once.
+// The next words of a generator, one for each entry of a list, over a lent table. The kind is asked for once, before the loop.
 #![tactic(auto)]
 
-ghost use Rattle.ahead.specs.Ahead.{XoshiroPut, TwisterPut, Pcg32Put, Pcg64Put};
+ghost use Rattle.ahead.specs.Ahead.{SourcePut, TwisterPut};
 ghost use Rattle.ahead.specs.Promises.{WordsInPromise};
 ghost use Rattle.std.specs.Prelude.{length};
 
-use pcg::{Pcg32, Pcg64};
-use random::{Backend, Engine, engine_with};
-use xoshiro::Xoshiro256PlusPlus;
+use random::{Backend, Engine};
+use source::Source;
 
-fn xoshiro_words(x: Xoshiro256PlusPlus, list: &mut [u32]) -> Xoshiro256PlusPlus
-    ensures { XoshiroPut x (length list.old) list.old list.new result }
+// The next words of a generator by value.
+fn source_words<S: Source>(g: S, list: &mut [u32]) -> S
+    ensures { SourcePut S.drawn g (length list.old) list.old list.new result }
 {
-    let mut next = x;
-    let mut i: usize = 0;
-    while i < list.len() {
+    let mut next = g;
+    for slot in list.iter_mut() {
         let d = next.next_u32();
-        list[i] = d.word;
+        *slot = d.word;
         next = d.next;
-        i += 1;
     }
     next
 }
 
-fn pcg32_words(p: Pcg32, list: &mut [u32]) -> Pcg32
-    ensures { Pcg32Put p (length list.old) list.old list.new result }
-{
-    let mut next = p;
-    let mut i: usize = 0;
-    while i < list.len() {
-        let d = next.next_u32();
-        list[i] = d.word;
-        next = d.next;
-        i += 1;
-    }
-    next
-}
-
-fn pcg64_words(p: Pcg64, list: &mut [u32]) -> Pcg64
-    ensures { Pcg64Put p (length list.old) list.old list.new result }
-{
-    let mut next = p;
-    let mut i: usize = 0;
-    while i < list.len() {
-        let d = next.next_u32();
-        list[i] = d.word;
-        next = d.next;
-        i += 1;
-    }
-    next
-}
-
+// The same of the twister, whose table is lent.
 fn twister_words(mt: &mut [u32; 624], mti: u32, list: &mut [u32]) -> u32
     ensures { TwisterPut mt.old mti (length list.old) list.old list.new
         mt.new result }
 {
     let mut at = mti;
-    let mut i: usize = 0;
-    while i < list.len() {
+    for slot in list.iter_mut() {
         let s = mersenne_twister::rand_in(mt, at);
-        list[i] = s.word;
+        *slot = s.word;
         at = s.mti;
-        i += 1;
     }
     at
 }
@@ -71,24 +39,22 @@ fn twister_words(mt: &mut [u32; 624], mti: u32, list: &mut [u32]) -> u32
 pub fn words_in(e: Engine, mt: &mut [u32; 624], list: &mut [u32]) -> Engine
     ensures { WordsInPromise e mt.old list.old result mt.new list.new }
 {
-    let mti = e.mti;
-    let backend = e.backend;
-    match backend {
+    match e.backend {
         Backend::Xoshiro256PlusPlus(x) => {
-            let next = xoshiro_words(x, list);
-            engine_with(Backend::Xoshiro256PlusPlus(next), mti)
+            let backend = Backend::Xoshiro256PlusPlus(source_words(x, list));
+            Engine { backend, ..e }
         }
         Backend::MersenneTwister => {
-            let at = twister_words(mt, mti, list);
-            engine_with(Backend::MersenneTwister, at)
+            let mti = twister_words(mt, e.mti, list);
+            Engine { mti, ..e }
         }
         Backend::Pcg32(p) => {
-            let next = pcg32_words(p, list);
-            engine_with(Backend::Pcg32(next), mti)
+            let backend = Backend::Pcg32(source_words(p, list));
+            Engine { backend, ..e }
         }
         Backend::Pcg64(p) => {
-            let next = pcg64_words(p, list);
-            engine_with(Backend::Pcg64(next), mti)
+            let backend = Backend::Pcg64(source_words(p, list));
+            Engine { backend, ..e }
         }
     }
 }

@@ -6,24 +6,22 @@ use Rattle.mersenne_twister.specs.declared.Drawn32 as drawn_twister
 use Rattle.mersenne_twister.specs.declared.MersenneTwister.{MersenneTwister}
 use Rattle.pcg.specs.Pcg32 as pcg32
 use Rattle.pcg.specs.Pcg64 as pcg64
-use Rattle.pcg.specs.declared.pcg32.Drawn32 as drawn_pcg32
+use Rattle.source.specs.declared.Drawn.{Drawn}
 use Rattle.pcg.specs.declared.pcg32.Pcg32.{Pcg32}
-use Rattle.pcg.specs.declared.pcg64.Drawn64 as drawn_pcg64
 use Rattle.pcg.specs.declared.pcg64.Pcg64.{Pcg64}
 use Rattle.xoshiro.specs.Generator as xoshiro
-use Rattle.xoshiro.specs.declared.Drawn64 as drawn_xoshiro
 use Rattle.xoshiro.specs.declared.Xoshiro256PlusPlus.{Xoshiro256PlusPlus}
 
 -- words of kind 0 in a row,
-abbrev pub xoshiro_words : ℕ → Xoshiro256PlusPlus → drawn_xoshiro.Drawn64
+abbrev pub xoshiro_words : ℕ → Xoshiro256PlusPlus → Drawn ℕ Xoshiro256PlusPlus
 xoshiro_words n g = record { word = xor_of xoshiro.stepped xoshiro.output n g; next = after xoshiro.stepped n g }
 
 -- of kind 2,
-abbrev pub pcg32_words : ℕ → Pcg32 → drawn_pcg32.Drawn32
+abbrev pub pcg32_words : ℕ → Pcg32 → Drawn ℕ Pcg32
 pcg32_words n g = record { word = xor_of pcg32.stepped pcg32.word_of n g; next = after pcg32.stepped n g }
 
 -- of kind 3,
-abbrev pub pcg64_words : ℕ → Pcg64 → drawn_pcg64.Drawn64
+abbrev pub pcg64_words : ℕ → Pcg64 → Drawn ℕ Pcg64
 pcg64_words n g = record { word = xor_of pcg64.stepped pcg64.word_of n g; next = after pcg64.stepped n g }
 
 -- the twister's state and word, off a draw

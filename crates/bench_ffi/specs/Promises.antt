@@ -4,24 +4,22 @@ use Rattle.mersenne_twister.specs.Table.{held, stepped}
 use Rattle.mersenne_twister.specs.declared.Drawn32 as drawn_twister
 use Rattle.mersenne_twister.specs.declared.MersenneTwister.{MersenneTwister}
 use Rattle.mersenne_twister.specs.declared.table.Step.{Step}
-use Rattle.pcg.specs.declared.pcg32.Drawn32 as drawn_pcg32
+use Rattle.source.specs.declared.Drawn.{Drawn}
 use Rattle.pcg.specs.declared.pcg32.Pcg32.{Pcg32}
-use Rattle.pcg.specs.declared.pcg64.Drawn64 as drawn_pcg64
 use Rattle.pcg.specs.declared.pcg64.Pcg64.{Pcg64}
-use Rattle.xoshiro.specs.declared.Drawn64 as drawn_xoshiro
 use Rattle.xoshiro.specs.declared.Xoshiro256PlusPlus.{Xoshiro256PlusPlus}
 use Rattle.bench_ffi.specs.Loops.{pcg32_words, pcg64_words, twister_words, xoshiro_words}
 
 -- a generator's own words in a row: kind 0,
-abbrev pub XoshiroWordsPromise : Xoshiro256PlusPlus → ℕ → drawn_xoshiro.Drawn64 → Type 0
+abbrev pub XoshiroWordsPromise : Xoshiro256PlusPlus → ℕ → Drawn ℕ Xoshiro256PlusPlus → Type 0
 XoshiroWordsPromise g n r = r ≡ xoshiro_words n g
 
 -- kind 2,
-abbrev pub Pcg32WordsPromise : Pcg32 → ℕ → drawn_pcg32.Drawn32 → Type 0
+abbrev pub Pcg32WordsPromise : Pcg32 → ℕ → Drawn ℕ Pcg32 → Type 0
 Pcg32WordsPromise g n r = r ≡ pcg32_words n g
 
 -- kind 3,
-abbrev pub Pcg64WordsPromise : Pcg64 → ℕ → drawn_pcg64.Drawn64 → Type 0
+abbrev pub Pcg64WordsPromise : Pcg64 → ℕ → Drawn ℕ Pcg64 → Type 0
 Pcg64WordsPromise g n r = r ≡ pcg64_words n g
 
 -- kind 1 over a lent table,

@@ -5,23 +5,21 @@ use Rattle.mersenne_twister.specs.PromisesLaws.{step_apart}
 use Rattle.mersenne_twister.specs.declared.Drawn32 as drawn_twister
 use Rattle.mersenne_twister.specs.declared.MersenneTwister.{MersenneTwister}
 use Rattle.mersenne_twister.specs.declared.table.Step.{Step}
-use Rattle.pcg.specs.declared.pcg32.Drawn32 as drawn_pcg32
+use Rattle.source.specs.declared.Drawn.{Drawn}
 use Rattle.pcg.specs.declared.pcg32.Pcg32.{Pcg32}
-use Rattle.pcg.specs.declared.pcg64.Drawn64 as drawn_pcg64
 use Rattle.pcg.specs.declared.pcg64.Pcg64.{Pcg64}
-use Rattle.xoshiro.specs.declared.Drawn64 as drawn_xoshiro
 use Rattle.xoshiro.specs.declared.Xoshiro256PlusPlus.{Xoshiro256PlusPlus}
 use Rattle.bench_ffi.specs.Promises.{Pcg32WordsPromise, Pcg64WordsPromise, TwisterWordsInPromise}
 use Rattle.bench_ffi.specs.Promises.{TwisterWordsPromise, XoshiroWordsPromise}
 
-pub one_xoshiro_words : (g : Xoshiro256PlusPlus) (n : ℕ) {a b : drawn_xoshiro.Drawn64}
+pub one_xoshiro_words : (g : Xoshiro256PlusPlus) (n : ℕ) {a b : Drawn ℕ Xoshiro256PlusPlus}
     → XoshiroWordsPromise g n a → XoshiroWordsPromise g n b → a ≡ b
 one_xoshiro_words g n p q = p ∙ sym q
 
-pub one_pcg32_words : (g : Pcg32) (n : ℕ) {a b : drawn_pcg32.Drawn32} → Pcg32WordsPromise g n a → Pcg32WordsPromise g n b → a ≡ b
+pub one_pcg32_words : (g : Pcg32) (n : ℕ) {a b : Drawn ℕ Pcg32} → Pcg32WordsPromise g n a → Pcg32WordsPromise g n b → a ≡ b
 one_pcg32_words g n p q = p ∙ sym q
 
-pub one_pcg64_words : (g : Pcg64) (n : ℕ) {a b : drawn_pcg64.Drawn64} → Pcg64WordsPromise g n a → Pcg64WordsPromise g n b → a ≡ b
+pub one_pcg64_words : (g : Pcg64) (n : ℕ) {a b : Drawn ℕ Pcg64} → Pcg64WordsPromise g n a → Pcg64WordsPromise g n b → a ≡ b
 one_pcg64_words g n p q = p ∙ sym q
 
 pub one_twister_words_in : (mt : List ℕ) (mti n : ℕ) {a b : Step} {mt₁ mt₂ : List ℕ}

@@ -4,7 +4,22 @@ ghost use Rattle.pcg.specs.Pcg32Promises.{Pcg32NextU64Promise};
 ghost use Rattle.bench_ffi.specs.Promises.{Pcg32WordsPromise};
 
 use pcg::Pcg32;
-use pcg::pcg32::{Drawn32, Drawn64};
+
+// A word of 32 bits and the generator after it, as C holds them: a generic type can't cross to C.
+#[repr(C)]
+#[derive(Clone, Copy)]
+pub struct Drawn32 {
+    pub word: u32,
+    pub next: Pcg32,
+}
+
+// A word of 64 bits and the generator after it, as C holds them: a generic type can't cross to C.
+#[repr(C)]
+#[derive(Clone, Copy)]
+pub struct Drawn64 {
+    pub word: u64,
+    pub next: Pcg32,
+}
 
 // Made of a seed number.
 #[unsafe(no_mangle)]
@@ -33,23 +48,27 @@ pub extern "C" fn pcg32_from_seed(seed: &[u8; 16]) -> Pcg32
 // The next word.
 #[unsafe(no_mangle)]
 pub extern "C" fn pcg32_next_u32(g: Pcg32) -> Drawn32
-    ensures { Pcg32NextU32Promise g result }
+    ensures { Pcg32NextU32Promise g record { word = result.word; next = result.next } }
 {
-    g.next_u32()
+    let d = g.next_u32();
+    let next = d.next;
+    Drawn32 { word: d.word, next }
 }
 
 // The next two words as one of 64 bits, the low one first.
 #[unsafe(no_mangle)]
 pub extern "C" fn pcg32_next_u64(g: Pcg32) -> Drawn64
-    ensures { Pcg32NextU64Promise g result }
+    ensures { Pcg32NextU64Promise g record { word = result.word; next = result.next } }
 {
-    g.next_u64()
+    let d = g.next_u64();
+    let next = d.next;
+    Drawn64 { word: d.word, next }
 }
 
 // The XOR of the next n 32-bit words, and the generator after them.
 #[unsafe(no_mangle)]
 pub extern "C" fn pcg32_words(g: Pcg32, n: u64) -> Drawn32
-    ensures { Pcg32WordsPromise g n result }
+    ensures { Pcg32WordsPromise g n record { word = result.word; next = result.next } }
 {
     let mut next = g;
     let mut word: u32 = 0;

@@ -4,8 +4,23 @@ ghost use Rattle.pcg.specs.Pcg64Promises.{Pcg64NextU64Promise, Pcg64NextU32Promi
 ghost use Rattle.bench_ffi.specs.Promises.{Pcg64WordsPromise};
 
 use pcg::Pcg64;
-use pcg::pcg64::{Drawn32, Drawn64};
 use wrapping::Wide;
+
+// A word of 32 bits and the generator after it, as C holds them: a generic type can't cross to C.
+#[repr(C)]
+#[derive(Clone, Copy)]
+pub struct Drawn32 {
+    pub word: u32,
+    pub next: Pcg64,
+}
+
+// A word of 64 bits and the generator after it, as C holds them: a generic type can't cross to C.
+#[repr(C)]
+#[derive(Clone, Copy)]
+pub struct Drawn64 {
+    pub word: u64,
+    pub next: Pcg64,
+}
 
 // Made of a seed number.
 #[unsafe(no_mangle)]
@@ -34,23 +49,27 @@ pub extern "C" fn pcg64_from_seed(seed: &[u8; 32]) -> Pcg64
 // The next word.
 #[unsafe(no_mangle)]
 pub extern "C" fn pcg64_next_u64(g: Pcg64) -> Drawn64
-    ensures { Pcg64NextU64Promise g result }
+    ensures { Pcg64NextU64Promise g record { word = result.word; next = result.next } }
 {
-    g.next_u64()
+    let d = g.next_u64();
+    let next = d.next;
+    Drawn64 { word: d.word, next }
 }
 
 // The high half of the next word.
 #[unsafe(no_mangle)]
 pub extern "C" fn pcg64_next_u32(g: Pcg64) -> Drawn32
-    ensures { Pcg64NextU32Promise g result }
+    ensures { Pcg64NextU32Promise g record { word = result.word; next = result.next } }
 {
-    g.next_u32()
+    let d = g.next_u32();
+    let next = d.next;
+    Drawn32 { word: d.word, next }
 }
 
 // The XOR of the next n 64-bit words, and the generator after them.
 #[unsafe(no_mangle)]
 pub extern "C" fn pcg64_words(g: Pcg64, n: u64) -> Drawn64
-    ensures { Pcg64WordsPromise g n result }
+    ensures { Pcg64WordsPromise g n record { word = result.word; next = result.next } }
 {
     let mut next = g;
     let mut word: u64 = 0;

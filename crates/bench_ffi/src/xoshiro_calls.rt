@@ -3,7 +3,23 @@ ghost use Rattle.xoshiro.specs.Promises.{XoshiroFromU64SeedPromise, XoshiroFromS
 ghost use Rattle.xoshiro.specs.Promises.{XoshiroJumpPromise};
 ghost use Rattle.bench_ffi.specs.Promises.{XoshiroWordsPromise};
 
-use xoshiro::{Drawn32, Drawn64, Xoshiro256PlusPlus};
+use xoshiro::Xoshiro256PlusPlus;
+
+// A word of 32 bits and the generator after it, as C holds them: a generic type can't cross to C.
+#[repr(C)]
+#[derive(Clone, Copy)]
+pub struct Drawn32 {
+    pub word: u32,
+    pub next: Xoshiro256PlusPlus,
+}
+
+// A word of 64 bits and the generator after it, as C holds them: a generic type can't cross to C.
+#[repr(C)]
+#[derive(Clone, Copy)]
+pub struct Drawn64 {
+    pub word: u64,
+    pub next: Xoshiro256PlusPlus,
+}
 
 // Made of a seed number.
 #[unsafe(no_mangle)]
@@ -24,17 +40,21 @@ pub extern "C" fn xoshiro_from_seed(seed: &[u8; 32]) -> Xoshiro256PlusPlus
 // The next word.
 #[unsafe(no_mangle)]
 pub extern "C" fn xoshiro_next_u64(g: Xoshiro256PlusPlus) -> Drawn64
-    ensures { XoshiroNextU64Promise g result }
+    ensures { XoshiroNextU64Promise g record { word = result.word; next = result.next } }
 {
-    g.next_u64()
+    let d = g.next_u64();
+    let next = d.next;
+    Drawn64 { word: d.word, next }
 }
 
 // The high half of the next word.
 #[unsafe(no_mangle)]
 pub extern "C" fn xoshiro_next_u32(g: Xoshiro256PlusPlus) -> Drawn32
-    ensures { XoshiroNextU32Promise g result }
+    ensures { XoshiroNextU32Promise g record { word = result.word; next = result.next } }
 {
-    g.next_u32()
+    let d = g.next_u32();
+    let next = d.next;
+    Drawn32 { word: d.word, next }
 }
 
 // The generator 2^128 words on.
@@ -48,7 +68,7 @@ pub extern "C" fn xoshiro_jump(g: Xoshiro256PlusPlus) -> Xoshiro256PlusPlus
 // The XOR of the next n 64-bit words, and the generator after them.
 #[unsafe(no_mangle)]
 pub extern "C" fn xoshiro_words(g: Xoshiro256PlusPlus, n: u64) -> Drawn64
-    ensures { XoshiroWordsPromise g n result }
+    ensures { XoshiroWordsPromise g n record { word = result.word; next = result.next } }
 {
     let mut next = g;
     let mut word: u64 = 0;

@@ -1,7 +1,6 @@
 -- What making and seeding a generator hand back.
 pub mod Make
 pub mod MakeLaws
-pub mod Copying
 pub mod Seeding
 pub mod Promises
 pub mod PromisesLaws

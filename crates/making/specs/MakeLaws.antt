@@ -15,10 +15,7 @@ use Rattle.making.specs.declared.bytes.Made.{Made}
 use Rattle.making.specs.Make.{of_xoshiro, of_twister, of_pcg32, of_pcg64, seed_length_of, of_kind}
 use Rattle.making.specs.Make.{refused_making, answered_making, made_bytes}
 
--- ---- the length of a kind's seed
-
-pub short_seed : (kind : ℕ) → kind ≡ 2 → seed_length_of kind ≡ 16
-short_seed kind e = rw e
+-- ---- the length of a kind's seed other than Pcg32's
 
 pub long_seed : (kind : ℕ) → (kind ≡ 2 → ⊥) → seed_length_of kind ≡ 32
 long_seed kind n = rw (ne_eqb kind 2 n)

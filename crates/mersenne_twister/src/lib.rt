@@ -18,7 +18,7 @@ pub use word::temper_word;
 
 // The table of 624 words and the position in it, `mt` and `mti` in mt19937ar.c.
 #[repr(C)]
-#[derive(Clone, Copy)]
+#[derive(Clone, Copy, PartialEq, Eq, Debug)]
 pub struct MersenneTwister {
     pub mt: [u32; 624],
     pub mti: u32,

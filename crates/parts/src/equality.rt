@@ -12,19 +12,7 @@ use random::{Backend, Engine, Random, engine_of};
 pub fn same_words(a: &[u32], b: &[u32]) -> bool
     ensures { SameWordsPromise a.now b.now result }
 {
-    let count = a.len();
-    let other = b.len();
-    if count != other {
-        return false;
-    }
-    let mut i: usize = 0;
-    while i < count {
-        if a[i] != b[i] {
-            return false;
-        }
-        i += 1;
-    }
-    true
+    a == b
 }
 
 // Whether all four words are the same.

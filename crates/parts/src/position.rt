@@ -1,18 +1,15 @@
 // The twister's position and twist, over a lent table and by value. On the other kinds they give 0, nothing and nothing.
 ghost use Rattle.parts.specs.Promises.{MtiInPromise, SetMtiInPromise, PartsTwistInPromise, MtiPromise, SetMtiPromise, TwistPromise};
 
-use random::{Backend, Engine, Random, engine_of, engine_with, with_table};
+use random::{Backend, Engine, Random, engine_of, with_table};
 
 // The twister's position; 0 for the other kinds.
 pub fn mti_in(e: Engine) -> u32
     ensures { MtiInPromise e result }
 {
-    let backend = e.backend;
-    match backend {
-        Backend::Xoshiro256PlusPlus(_) => 0,
+    match e.backend {
         Backend::MersenneTwister => e.mti,
-        Backend::Pcg32(_) => 0,
-        Backend::Pcg64(_) => 0,
+        _ => 0,
     }
 }
 
@@ -20,31 +17,26 @@ pub fn mti_in(e: Engine) -> u32
 pub fn set_mti_in(e: Engine, value: u32) -> Engine
     ensures { SetMtiInPromise e value result }
 {
-    let backend = e.backend;
-    match backend {
-        Backend::Xoshiro256PlusPlus(_) => e,
-        Backend::MersenneTwister => engine_with(
-            Backend::MersenneTwister,
-            mersenne_twister::stored_position(value),
-        ),
-        Backend::Pcg32(_) => e,
-        Backend::Pcg64(_) => e,
+    match e.backend {
+        Backend::MersenneTwister => Engine {
+            mti: mersenne_twister::stored_position(value),
+            ..e
+        },
+        _ => e,
     }
 }
 
 // The twist; nothing for the other kinds.
+#[tactic(auto, unfolding(crate::specs::Position::twisted))]
 pub fn twist_in(e: Engine, mt: &mut [u32; 624]) -> Engine
     ensures { PartsTwistInPromise e mt.old result mt.new }
 {
-    let backend = e.backend;
-    match backend {
-        Backend::Xoshiro256PlusPlus(_) => e,
-        Backend::MersenneTwister => {
-            let at = mersenne_twister::twist_in(mt);
-            engine_with(Backend::MersenneTwister, at)
-        }
-        Backend::Pcg32(_) => e,
-        Backend::Pcg64(_) => e,
+    match e.backend {
+        Backend::MersenneTwister => Engine {
+            mti: mersenne_twister::twist_in(mt),
+            ..e
+        },
+        _ => e,
     }
 }
 

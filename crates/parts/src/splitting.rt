@@ -16,23 +16,21 @@ pub struct EngineSplit {
 }
 
 // Kind 0: the child has the old state, and the parent jumps. The other kinds are refused with 9, with the child of four zero words.
+#[tactic(auto, unfolding(crate::specs::Splitting::engine_split))]
 pub fn split_in(e: Engine) -> EngineSplit
     ensures { SplitInPromise e result }
 {
-    let mti = e.mti;
-    let backend = e.backend;
-    match backend {
+    match e.backend {
         Backend::Xoshiro256PlusPlus(x) => {
-            let parent = engine_with(Backend::Xoshiro256PlusPlus(x.jump()), mti);
+            let backend = Backend::Xoshiro256PlusPlus(x.jump());
+            let parent = Engine { backend, ..e };
             EngineSplit {
                 refusal: refusal::ANSWERED,
                 parent,
                 child: e,
             }
         }
-        Backend::MersenneTwister => no_split(e),
-        Backend::Pcg32(_) => no_split(e),
-        Backend::Pcg64(_) => no_split(e),
+        _ => no_split(e),
     }
 }
 

@@ -4,8 +4,7 @@ use Rattle.wrapping.specs.Bytes.{little}
 use Rattle.wrapping.specs.Rotate.{rotate_right}
 use Rattle.pcg.specs.Lcg.{affine, increment, seeded_state, low_bit_set}
 use Rattle.pcg.specs.declared.pcg32.Pcg32.{Pcg32}
-use Rattle.pcg.specs.declared.pcg32.Drawn32.{Drawn32}
-use Rattle.pcg.specs.declared.pcg32.Drawn64.{Drawn64}
+use Rattle.source.specs.declared.Drawn.{Drawn}
 
 -- the multiplier of the step, O'Neill's for 64 bits
 abbrev pub multiplier : ℕ
@@ -32,11 +31,11 @@ abbrev pub word_of : Pcg32 → ℕ
 word_of g = output g.state
 
 -- one word, made of the old state
-abbrev pub drawn : Pcg32 → Drawn32
+abbrev pub drawn : Pcg32 → Drawn ℕ Pcg32
 drawn g = record { word = word_of g; next = stepped g }
 
 -- two words, the low one first (document 01; the paper has none)
-abbrev pub drawn_twice : Pcg32 → Drawn64
+abbrev pub drawn_twice : Pcg32 → Drawn ℕ Pcg32
 drawn_twice g = record { word = word_of (stepped g) * 2 ^ 32 + word_of g; next = stepped (stepped g) }
 
 -- the generator of a seed number and a stream

@@ -1,8 +1,7 @@
 -- What each public call promises of its answer: the contracts of src/, by name.
 use Rattle.std.specs.Prelude.{◌≡◌, ℕ, List}
 use Rattle.pcg.specs.Pcg32.{default_stream, drawn, drawn_twice, parts, seeded, seeded_bytes}
-use Rattle.pcg.specs.declared.pcg32.Drawn32.{Drawn32}
-use Rattle.pcg.specs.declared.pcg32.Drawn64.{Drawn64}
+use Rattle.source.specs.declared.Drawn.{Drawn}
 use Rattle.pcg.specs.declared.pcg32.Pcg32.{Pcg32}
 
 -- `from_parts`: the generator with this state and the increment in use
@@ -22,9 +21,9 @@ abbrev pub Pcg32FromSeedPromise : List ℕ → Pcg32 → Type 0
 Pcg32FromSeedPromise seed r = r ≡ seeded_bytes seed
 
 -- `next_u32`: the old state's word, and the generator after it
-abbrev pub Pcg32NextU32Promise : Pcg32 → Drawn32 → Type 0
+abbrev pub Pcg32NextU32Promise : Pcg32 → Drawn ℕ Pcg32 → Type 0
 Pcg32NextU32Promise self r = r ≡ drawn self
 
 -- `next_u64`: two words as one, the low one first, and the generator after them
-abbrev pub Pcg32NextU64Promise : Pcg32 → Drawn64 → Type 0
+abbrev pub Pcg32NextU64Promise : Pcg32 → Drawn ℕ Pcg32 → Type 0
 Pcg32NextU64Promise self r = r ≡ drawn_twice self

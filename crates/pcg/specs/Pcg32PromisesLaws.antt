@@ -3,8 +3,7 @@ use Rattle.std.specs.Prelude.{◌≡◌, ℕ, List}
 use Rattle.std.proofs.Common.{sym, ◌∙◌}
 use Rattle.pcg.specs.Pcg32Promises.{Pcg32FromPartsPromise, Pcg32FromSeedPromise, Pcg32FromSeedStreamPromise}
 use Rattle.pcg.specs.Pcg32Promises.{Pcg32FromU64SeedPromise, Pcg32NextU32Promise, Pcg32NextU64Promise}
-use Rattle.pcg.specs.declared.pcg32.Drawn32.{Drawn32}
-use Rattle.pcg.specs.declared.pcg32.Drawn64.{Drawn64}
+use Rattle.source.specs.declared.Drawn.{Drawn}
 use Rattle.pcg.specs.declared.pcg32.Pcg32.{Pcg32}
 
 pub one_pcg32_from_parts : (state inc : ℕ) {a b : Pcg32} → Pcg32FromPartsPromise state inc a → Pcg32FromPartsPromise state inc b → a ≡ b
@@ -20,8 +19,8 @@ one_pcg32_from_u64_seed seed p q = p ∙ sym q
 pub one_pcg32_from_seed : (seed : List ℕ) {a b : Pcg32} → Pcg32FromSeedPromise seed a → Pcg32FromSeedPromise seed b → a ≡ b
 one_pcg32_from_seed seed p q = p ∙ sym q
 
-pub one_pcg32_next_u32 : (self : Pcg32) {a b : Drawn32} → Pcg32NextU32Promise self a → Pcg32NextU32Promise self b → a ≡ b
+pub one_pcg32_next_u32 : (self : Pcg32) {a b : Drawn ℕ Pcg32} → Pcg32NextU32Promise self a → Pcg32NextU32Promise self b → a ≡ b
 one_pcg32_next_u32 self p q = p ∙ sym q
 
-pub one_pcg32_next_u64 : (self : Pcg32) {a b : Drawn64} → Pcg32NextU64Promise self a → Pcg32NextU64Promise self b → a ≡ b
+pub one_pcg32_next_u64 : (self : Pcg32) {a b : Drawn ℕ Pcg32} → Pcg32NextU64Promise self a → Pcg32NextU64Promise self b → a ≡ b
 one_pcg32_next_u64 self p q = p ∙ sym q

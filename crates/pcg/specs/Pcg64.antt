@@ -7,8 +7,7 @@ use Rattle.wrapping.specs.Wide.{value, wide}
 use Rattle.wrapping.specs.declared.wide.Wide.{Wide}
 use Rattle.pcg.specs.Lcg.{affine, increment, seeded_state, low_bit_set}
 use Rattle.pcg.specs.declared.pcg64.Pcg64.{Pcg64}
-use Rattle.pcg.specs.declared.pcg64.Drawn64.{Drawn64}
-use Rattle.pcg.specs.declared.pcg64.Drawn32.{Drawn32}
+use Rattle.source.specs.declared.Drawn.{Drawn}
 
 -- the multiplier of the step, O'Neill's for 128 bits
 abbrev pub multiplier : ℕ
@@ -35,11 +34,11 @@ abbrev pub word_of : Pcg64 → ℕ
 word_of g = output g.state
 
 -- one word, made of the old state
-abbrev pub drawn : Pcg64 → Drawn64
+abbrev pub drawn : Pcg64 → Drawn ℕ Pcg64
 drawn g = record { word = word_of g; next = stepped g }
 
 -- the 32-bit word is the high half (document 01; the paper has none)
-abbrev pub drawn_high : Pcg64 → Drawn32
+abbrev pub drawn_high : Pcg64 → Drawn ℕ Pcg64
 drawn_high g = record { word = word_of g / 2 ^ 32; next = stepped g }
 
 -- the increment of a stream, held as two words

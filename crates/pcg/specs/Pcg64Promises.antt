@@ -3,8 +3,7 @@ use Rattle.std.specs.Prelude.{◌≡◌, ℕ, List}
 use Rattle.wrapping.specs.Wide.{value}
 use Rattle.wrapping.specs.declared.wide.Wide.{Wide}
 use Rattle.pcg.specs.Pcg64.{default_stream, drawn, drawn_high, parts, seeded, seeded_bytes}
-use Rattle.pcg.specs.declared.pcg64.Drawn32.{Drawn32}
-use Rattle.pcg.specs.declared.pcg64.Drawn64.{Drawn64}
+use Rattle.source.specs.declared.Drawn.{Drawn}
 use Rattle.pcg.specs.declared.pcg64.Pcg64.{Pcg64}
 
 -- `from_parts`: the generator with this state and the increment in use
@@ -24,9 +23,9 @@ abbrev pub Pcg64FromSeedPromise : List ℕ → Pcg64 → Type 0
 Pcg64FromSeedPromise seed r = r ≡ seeded_bytes seed
 
 -- `next_u64`: the old state's word, and the generator after it
-abbrev pub Pcg64NextU64Promise : Pcg64 → Drawn64 → Type 0
+abbrev pub Pcg64NextU64Promise : Pcg64 → Drawn ℕ Pcg64 → Type 0
 Pcg64NextU64Promise self r = r ≡ drawn self
 
 -- `next_u32`: the high half of that word, and the generator after it
-abbrev pub Pcg64NextU32Promise : Pcg64 → Drawn32 → Type 0
+abbrev pub Pcg64NextU32Promise : Pcg64 → Drawn ℕ Pcg64 → Type 0
 Pcg64NextU32Promise self r = r ≡ drawn_high self

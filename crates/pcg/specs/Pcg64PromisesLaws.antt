@@ -4,8 +4,7 @@ use Rattle.std.proofs.Common.{sym, ◌∙◌}
 use Rattle.wrapping.specs.declared.wide.Wide.{Wide}
 use Rattle.pcg.specs.Pcg64Promises.{Pcg64FromPartsPromise, Pcg64FromSeedPromise, Pcg64FromSeedStreamPromise}
 use Rattle.pcg.specs.Pcg64Promises.{Pcg64FromU128SeedPromise, Pcg64NextU32Promise, Pcg64NextU64Promise}
-use Rattle.pcg.specs.declared.pcg64.Drawn32.{Drawn32}
-use Rattle.pcg.specs.declared.pcg64.Drawn64.{Drawn64}
+use Rattle.source.specs.declared.Drawn.{Drawn}
 use Rattle.pcg.specs.declared.pcg64.Pcg64.{Pcg64}
 
 pub one_pcg64_from_parts : (state inc : Wide) {a b : Pcg64} → Pcg64FromPartsPromise state inc a → Pcg64FromPartsPromise state inc b → a ≡ b
@@ -21,8 +20,8 @@ one_pcg64_from_u128_seed seed p q = p ∙ sym q
 pub one_pcg64_from_seed : (seed : List ℕ) {a b : Pcg64} → Pcg64FromSeedPromise seed a → Pcg64FromSeedPromise seed b → a ≡ b
 one_pcg64_from_seed seed p q = p ∙ sym q
 
-pub one_pcg64_next_u64 : (self : Pcg64) {a b : Drawn64} → Pcg64NextU64Promise self a → Pcg64NextU64Promise self b → a ≡ b
+pub one_pcg64_next_u64 : (self : Pcg64) {a b : Drawn ℕ Pcg64} → Pcg64NextU64Promise self a → Pcg64NextU64Promise self b → a ≡ b
 one_pcg64_next_u64 self p q = p ∙ sym q
 
-pub one_pcg64_next_u32 : (self : Pcg64) {a b : Drawn32} → Pcg64NextU32Promise self a → Pcg64NextU32Promise self b → a ≡ b
+pub one_pcg64_next_u32 : (self : Pcg64) {a b : Drawn ℕ Pcg64} → Pcg64NextU32Promise self a → Pcg64NextU32Promise self b → a ≡ b
 one_pcg64_next_u32 self p q = p ∙ sym q

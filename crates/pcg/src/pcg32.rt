@@ -1,8 +1,10 @@
 // PCG-XSH-RR-64/32: a state of 64 bits and an increment, words of 32 bits.
 ghost use Rattle.std.specs.Prelude.{◌≡◌};
-ghost use Rattle.pcg.specs.Pcg32.{next_state, output, seeded_bytes};
+ghost use Rattle.pcg.specs.Pcg32.{drawn, drawn_twice, next_state, output, seeded_bytes};
 ghost use Rattle.pcg.specs.Pcg32Promises.{Pcg32FromPartsPromise, Pcg32FromSeedStreamPromise, Pcg32FromU64SeedPromise};
 ghost use Rattle.pcg.specs.Pcg32Promises.{Pcg32FromSeedPromise, Pcg32NextU32Promise, Pcg32NextU64Promise};
+
+use source::{Drawn, Source};
 
 // The multiplier of the step, O'Neill's for 64 bits.
 const MULTIPLIER: u64 = 6_364_136_223_846_793_005;
@@ -12,26 +14,10 @@ const DEFAULT_STREAM: u64 = 1_442_695_040_888_963_407;
 
 // The state, and the increment in use.
 #[repr(C)]
-#[derive(Clone, Copy)]
+#[derive(Clone, Copy, PartialEq, Eq, Debug)]
 pub struct Pcg32 {
     pub state: u64,
     pub inc: u64,
-}
-
-// A word of 32 bits, and the generator after it.
-#[repr(C)]
-#[derive(Clone, Copy)]
-pub struct Drawn32 {
-    pub word: u32,
-    pub next: Pcg32,
-}
-
-// Two words as one of 64 bits, and the generator after them.
-#[repr(C)]
-#[derive(Clone, Copy)]
-pub struct Drawn64 {
-    pub word: u64,
-    pub next: Pcg32,
 }
 
 // The state after a state, with this increment.
@@ -93,10 +79,10 @@ impl Pcg32 {
     }
 
     // The next word. It is made of the old state.
-    pub fn next_u32(self) -> Drawn32
+    pub fn next_u32(self) -> Drawn<u32, Pcg32>
         ensures { Pcg32NextU32Promise self result }
     {
-        Drawn32 {
+        Drawn {
             word: word_of(self.state),
             next: Pcg32 {
                 state: next_state(self.state, self.inc),
@@ -106,16 +92,30 @@ impl Pcg32 {
     }
 
     // Two words, the low one first.
-    pub fn next_u64(self) -> Drawn64
+    pub fn next_u64(self) -> Drawn<u64, Pcg32>
         ensures { Pcg32NextU64Promise self result }
     {
         let low = self.next_u32();
         let between = low.next;
         let high = between.next_u32();
         let next = high.next;
-        Drawn64 {
+        Drawn {
             word: (high.word as u64) * 0x1_0000_0000 + (low.word as u64),
             next,
         }
+    }
+}
+
+impl Source for Pcg32 {
+    ghost drawn = { drawn };
+
+    ghost drawn64 = { drawn_twice };
+
+    fn next_u32(self) -> Drawn<u32, Pcg32> {
+        Pcg32::next_u32(self)
+    }
+
+    fn next_u64(self) -> Drawn<u64, Pcg32> {
+        Pcg32::next_u64(self)
     }
 }

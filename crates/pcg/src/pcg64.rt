@@ -1,9 +1,10 @@
 // PCG-XSL-RR-128/64: a state and an increment of 128 bits each, words of 64 bits.
 ghost use Rattle.std.specs.Prelude.{◌≡◌};
-ghost use Rattle.pcg.specs.Pcg64.{next_state, output, increment_of, seeded_bytes};
+ghost use Rattle.pcg.specs.Pcg64.{drawn, drawn_high, next_state, output, increment_of, seeded_bytes};
 ghost use Rattle.pcg.specs.Pcg64Promises.{Pcg64FromPartsPromise, Pcg64FromSeedStreamPromise, Pcg64FromU128SeedPromise};
 ghost use Rattle.pcg.specs.Pcg64Promises.{Pcg64FromSeedPromise, Pcg64NextU64Promise, Pcg64NextU32Promise};
 
+use source::{Drawn, Source};
 use wrapping::Wide;
 
 // The multiplier of the step, O'Neill's for 128 bits.
@@ -20,26 +21,10 @@ const DEFAULT_STREAM: Wide = Wide {
 
 // The state, and the increment in use.
 #[repr(C)]
-#[derive(Clone, Copy)]
+#[derive(Clone, Copy, PartialEq, Eq, Debug)]
 pub struct Pcg64 {
     pub state: Wide,
     pub inc: Wide,
-}
-
-// A word of 64 bits, and the generator after it.
-#[repr(C)]
-#[derive(Clone, Copy)]
-pub struct Drawn64 {
-    pub word: u64,
-    pub next: Pcg64,
-}
-
-// A word of 32 bits, and the generator after it.
-#[repr(C)]
-#[derive(Clone, Copy)]
-pub struct Drawn32 {
-    pub word: u32,
-    pub next: Pcg64,
 }
 
 // The state after a state, with this increment.
@@ -113,27 +98,41 @@ impl Pcg64 {
     }
 
     // The next word. It is made of the old state.
-    pub fn next_u64(self) -> Drawn64
+    pub fn next_u64(self) -> Drawn<u64, Pcg64>
         ensures { Pcg64NextU64Promise self result }
     {
         let old = self.state;
         let inc = self.inc;
         let state = next_state(old, inc);
-        Drawn64 {
+        Drawn {
             word: word_of(old),
             next: Pcg64 { state, inc },
         }
     }
 
     // The high half of the next word.
-    pub fn next_u32(self) -> Drawn32
+    pub fn next_u32(self) -> Drawn<u32, Pcg64>
         ensures { Pcg64NextU32Promise self result }
     {
         let d = self.next_u64();
         let next = d.next;
-        Drawn32 {
+        Drawn {
             word: (d.word >> 32) as u32,
             next,
         }
+    }
+}
+
+impl Source for Pcg64 {
+    ghost drawn = { drawn_high };
+
+    ghost drawn64 = { drawn };
+
+    fn next_u32(self) -> Drawn<u32, Pcg64> {
+        Pcg64::next_u32(self)
+    }
+
+    fn next_u64(self) -> Drawn<u64, Pcg64> {
+        Pcg64::next_u64(self)
     }
 }

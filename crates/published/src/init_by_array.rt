@@ -25,8 +25,7 @@ fn add_key(mt: &mut [u32; 624], i: usize, j: usize) {
         return;
     }
     let x = mixed(mt[i - 1], mt[i], 1664525);
-    let sum = std::num::wrapping_add_u32(x, KEY[j % 4]);
-    mt[i] = std::num::wrapping_add_u32(sum, (j % 4) as u32);
+    mt[i] = x.wrapping_add(KEY[j % 4]).wrapping_add((j % 4) as u32);
 }
 
 // One turn of the second loop, at the place i.
@@ -38,22 +37,19 @@ fn take_place(mt: &mut [u32; 624], i: usize) {
         return;
     }
     let x = mixed(mt[i - 1], mt[i], 1566083941);
-    mt[i] = std::num::wrapping_sub_u32(x, i as u32);
+    mt[i] = x.wrapping_sub(i as u32);
 }
 
 pub(crate) fn init_by_array(mt: &mut [u32; 624]) {
     mersenne_twister::seed_in(mt, 19650218);
     let mut i: usize = 1;
-    let mut k: usize = 0;
-    while k < 624 {
+    for k in 0..624 {
         add_key(mt, i, k);
         i = next_place(mt, i);
-        k += 1;
     }
-    while k < 1247 {
+    for _ in 0..623 {
         take_place(mt, i);
         i = next_place(mt, i);
-        k += 1;
     }
     mt[0] = 0x8000_0000;
 }

@@ -4,22 +4,20 @@
 
 mod init_by_array;
 mod report;
-mod source;
 mod twister;
 mod vectors;
 
 use pcg::{Pcg32, Pcg64};
-use source::Source;
 use std::io;
 use wrapping::Wide;
 use xoshiro::Xoshiro256PlusPlus;
 
 fn compare_pcg(rt: &impl Print) -> io::Result<()> {
     let small = Pcg32::from_seed_stream(42, 54);
-    report::compare(
+    report::compare32(
         rt,
         b"Pcg32, seed 42, stream 54, and O'Neill's pcg32-demo",
-        Source::OfPcg32(small),
+        small,
         &vectors::PCG32_DEMO,
     )?;
     let seed = Wide { high: 0, low: 42 };
@@ -29,7 +27,7 @@ fn compare_pcg(rt: &impl Print) -> io::Result<()> {
     report::compare(
         rt,
         b"Pcg64, seed 42, stream 54, from its second word on, and O'Neill's pcg64-demo",
-        Source::OfPcg64(after_first),
+        after_first,
         &vectors::PCG64_DEMO,
     )
 }
@@ -49,14 +47,14 @@ fn compare_xoshiro(rt: &impl Print) -> io::Result<()> {
     report::compare(
         rt,
         b"xoshiro256++, state 1, 2, 3, 4, and Java's Xoshiro256PlusPlus",
-        Source::OfXoshiro(g),
+        g,
         &vectors::JAVA_XOSHIRO,
     )?;
     let jumped = g.jump();
     report::compare(
         rt,
         b"xoshiro256++, state 1, 2, 3, 4, jumped, and Java's jump()",
-        Source::OfXoshiro(jumped),
+        jumped,
         &vectors::JAVA_XOSHIRO_JUMPED,
     )?;
     compare_seeding(

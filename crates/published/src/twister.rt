@@ -13,12 +13,10 @@ struct Place {
 fn agreeing(mt: &mut [u32; 624], mti: u32, theirs: &[u64]) -> Place {
     let mut right: u64 = 0;
     let mut at = mti;
-    let mut i: usize = 0;
-    while i < theirs.len() {
+    for word in theirs {
         let d = mersenne_twister::rand_in(mt, at);
-        right = report::counted(right, d.word as u64, theirs[i]);
+        right = report::counted(right, d.word as u64, *word);
         at = d.mti;
-        i += 1;
     }
     Place { right, mti: at }
 }
@@ -26,11 +24,9 @@ fn agreeing(mt: &mut [u32; 624], mti: u32, theirs: &[u64]) -> Place {
 // The position n words on.
 fn skipped(mt: &mut [u32; 624], mti: u32, n: u32) -> u32 {
     let mut at = mti;
-    let mut i: u32 = 0;
-    while i < n {
+    for _ in 0..n {
         let d = mersenne_twister::rand_in(mt, at);
         at = d.mti;
-        i += 1;
     }
     at
 }

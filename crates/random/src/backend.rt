@@ -6,7 +6,7 @@ use pcg::{Pcg32, Pcg64};
 use xoshiro::Xoshiro256PlusPlus;
 
 // The kinds 0 to 3, in this order. The twister's table can't stand in an enum, so it stands beside it.
-#[derive(Clone, Copy)]
+#[derive(Clone, Copy, PartialEq, Eq, Debug)]
 pub enum Backend {
     Xoshiro256PlusPlus(Xoshiro256PlusPlus),
     MersenneTwister,
@@ -14,7 +14,7 @@ pub enum Backend {
     Pcg64(Pcg64),
 }
 
-#[derive(Clone, Copy)]
+#[derive(Clone, Copy, PartialEq, Eq, Debug)]
 pub struct Random {
     pub backend: Backend,
     pub twister: MersenneTwister,

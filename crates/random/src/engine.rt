@@ -6,7 +6,7 @@ ghost use Rattle.random.specs.Promises.{EngineWithPromise};
 use crate::backend::Backend;
 
 // All of a generator but the table.
-#[derive(Clone, Copy)]
+#[derive(Clone, Copy, PartialEq, Eq, Debug)]
 pub struct Engine {
     pub backend: Backend,
     pub mti: u32,

@@ -1,17 +1,15 @@
--- The laws of turns: what a turn's own code builds, and where the draws stand after it.
-use Rattle.std.specs.Prelude.{◌≡◌, Bool, List, ◌++◌, ℕ, ◌+◌, ◌≤◌, ◌<◌, length, take, drop}
-use Rattle.std.proofs.Common.{sym, ◌∙◌, ap, arith, length-append, length-take, length-take-le}
+-- The laws of turns: the words that a turn puts into a list, and where the draws stand after it.
+use Rattle.std.specs.Prelude.{◌≡◌, Bool, List, ◌++◌, ℕ, ◌+◌, ◌≤◌, ◌<◌, length, drop}
+use Rattle.std.proofs.Common.{sym, ◌∙◌, ap, arith, length-append}
 use Rattle.words.specs.Draw.{Words, after, listed}
 use Rattle.random.specs.declared.backend.Random.{Random}
-use Rattle.random.specs.declared.engine.Engine.{Engine}
 use Rattle.random.specs.Generator.{later, words_of}
 use Rattle.random.specs.Lent.{joined_with}
 use Rattle.random.specs.GeneratorLaws.{later_add, words_after}
 use Rattle.ahead.specs.Ahead.{first_words}
 use Rattle.ahead.specs.AheadLaws.{words_length, word_there}
-use Rattle.rehearsal.specs.Bounds.{bound_after}
 use Rattle.rehearsal.specs.Values.{values_after, settled_after, bound_left}
-use Rattle.rehearsal.specs.ValuesLaws.{values_none, values_more, values_same, settled_few}
+use Rattle.rehearsal.specs.ValuesLaws.{values_more, values_same}
 use Rattle.rehearsal.specs.Turns.{SettledWords, words_taken, values_taken}
 use Rattle.rehearsal.specs.Rehearsing.{rehearsing_on, rehearsing_within}
 use Rattle.rehearsal.specs.Standing.{Standing}
@@ -37,41 +35,6 @@ words_settled {g} {n = n} r falls w m p =
     let same = values_listed (words_of g) r falls n in
     let put = rw w at p in
     record { moved = m; counted = rw same at put.0; holds = rw same at put.1 }
-
--- no more draws than words
-pub settled_few_words : {g h : Random} {r : ℕ} {falls : Bool} {n count : ℕ} {l : List ℕ} → SettledWords g r falls n h count l → count ≤ n
-settled_few_words {g} {r = r} {falls} {n} p =
-    let few = settled_few (words_of g) r falls 0 n in
-    let none = ap length (values_none (words_of g) r falls) in
-    let z : 0 + n ≡ n = omega arith in
-    let some = rw z at few in
-    omega (arith, p.counted, some, none)
-
--- ---- what a turn builds of them
-
-part_length : (d : Draws) (t : Turn) (block : List ℕ)
-    → length (take (words_taken d t (length block)) block) ≡ words_taken d t (length block)
-part_length d t block = length-take-le (words_taken d t (length block)) block (omega arith)
-
--- The words that the block's first part takes, and the draws that they settle from the bound where they stand, are a turn.
-pub turn_built : {e : Engine} {n r count : ℕ} {mt' list : List ℕ} (d : Draws) (t : Turn) (mt block : List ℕ)
-    → n ≡ words_taken d t (length block)
-    → r ≡ bound_after d.falls d.first t.settled
-    → SettledWords (joined_with t.next mt) r d.falls (length (take n block)) (joined_with e mt') count list
-    → TakeTurnPromise d t mt block (record { next = e; used = t.used + n; settled = t.settled + count }) mt' (list ++ drop n block)
-turn_built d t mt block taken bound p =
-    let q = rw (taken, bound, part_length d t block) at p in
-    record {
-      moved = q.moved;
-      used = ap (λ (x : ℕ). t.used + x) taken;
-      settled = ap (λ (x : ℕ). t.settled + x) q.counted;
-      holds = rw taken (ap (λ (x : List ℕ). x ++ drop (words_taken d t (length block)) block) q.holds);
-    }
-
--- a turn settles no more draws than it takes words
-pub few_drawn : {g h : Random} {r : ℕ} {falls : Bool} {count : ℕ} {list : List ℕ} (n : ℕ) (block : List ℕ)
-    → SettledWords g r falls (length (take n block)) h count list → count ≤ n
-few_drawn n block p = omega (arith, settled_few_words p, length-take n block)
 
 -- ---- where draws stand, turn after turn
 

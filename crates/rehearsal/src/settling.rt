@@ -3,17 +3,15 @@ ghost use Rattle.std.specs.Prelude.{◌≡◌};
 ghost use Rattle.rehearsal.specs.Bounds.{bound_after};
 ghost use Rattle.rehearsal.specs.Promises.{SettlePromise};
 
-// The bound after r.
-pub(crate) fn next_bound(r: u32, falls: bool) -> u32
-    ensures { result ≡ bound_after falls r 1 }
+// The bound after some draws, the first below `first`, where the bounds fall or stay.
+pub(crate) fn bound_after(first: u32, falls: bool, settled: u32) -> u32
+    ensures { result ≡ bound_after falls first settled }
 {
     if falls {
-        if r == 0 {
-            return 0;
-        }
-        return r - 1;
+        first.saturating_sub(settled)
+    } else {
+        first
     }
-    r
 }
 
 // How many draws these words settle, one after the other, the first below r and the further ones below bounds that fall or stay. Their
@@ -23,15 +21,13 @@ pub fn settle(list: &mut [u32], r: u32, falls: bool) -> usize
 {
     let mut settled: usize = 0;
     let mut bound = r;
-    let mut i: usize = 0;
-    while i < list.len() {
+    for i in 0..list.len() {
         let word = list[i];
         if words::is_good(word, bound) {
             list[settled] = words::quotient(word, bound);
             settled += 1;
-            bound = next_bound(bound, falls);
+            bound = bound_after(bound, falls, 1);
         }
-        i += 1;
     }
     settled
 }

@@ -1,12 +1,11 @@
 // Draws from a generator, some words at a time: a turn takes as many words as the caller's block holds, and leaves the values that they
 // settle there.
-ghost use Rattle.std.specs.Prelude.{◌≡◌, ◌+◌, ◌-◌, ◌<◌, min, length};
+ghost use Rattle.std.specs.Prelude.{◌≡◌, ◌+◌, ◌<◌, length};
 ghost use Rattle.random.specs.Lent.{joined_with};
-ghost use Rattle.rehearsal.specs.Bounds.{bound_after};
 ghost use Rattle.rehearsal.specs.Promises.{TakeTurnPromise};
 ghost use Rattle.rehearsal.specs.Turns.{SettledWords, words_taken};
 
-use crate::settling::settle;
+use crate::settling::{bound_after, settle};
 use random::Engine;
 
 // So many draws under a budget of words: the first below `first`, each further one below the same bound, or below one less where they fall.
@@ -26,44 +25,15 @@ pub struct Turn {
     pub settled: u32,
 }
 
-// a less b, and 0 where b is more.
-fn less(a: u32, b: u32) -> u32
-    ensures { result ≡ a - b }
-{
-    if a < b {
-        return 0;
-    }
-    a - b
-}
-
-// The bound after some draws.
-fn bound_after(first: u32, falls: bool, settled: u32) -> u32
-    ensures { result ≡ bound_after falls first settled }
-{
-    if falls {
-        return less(first, settled);
-    }
-    first
-}
-
-fn smaller(a: usize, b: usize) -> usize
-    ensures { result ≡ min a b }
-{
-    if a < b {
-        return a;
-    }
-    b
-}
-
 // How many words to take at once: no more than draws are left, so that no word is taken past the last draw; than the budget allows; or than
 // the block holds.
 fn words_taken(d: Draws, t: Turn, block: usize) -> usize
     ensures taken { result ≡ words_taken d t block }
     ensures small { (t.used + result < 4294967296) × (t.settled + result < 4294967296) }
 {
-    let left = less(d.count, t.settled);
-    let allowed = less(d.budget, t.used);
-    smaller(smaller(left as usize, allowed as usize), block)
+    let left = d.count.saturating_sub(t.settled);
+    let allowed = d.budget.saturating_sub(t.used);
+    (left.min(allowed) as usize).min(block)
 }
 
 // The engine after some words, and how many draws they settled.

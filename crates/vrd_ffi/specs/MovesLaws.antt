@@ -11,15 +11,13 @@ use Rattle.mersenne_twister.specs.declared.table.Step64.{Step64}
 use Rattle.mersenne_twister.specs.DrawLaws.{in_low}
 use Rattle.mersenne_twister.specs.Sequence.{temper}
 use Rattle.mersenne_twister.specs.Table as twister
+use Rattle.source.specs.declared.Drawn as source
 use Rattle.pcg.specs.Pcg32 as pcg32
 use Rattle.pcg.specs.Pcg64 as pcg64
-use Rattle.pcg.specs.declared.pcg32.Drawn32 as pcg32_drawn
-use Rattle.pcg.specs.declared.pcg32.Drawn64 as pcg32_drawn64
-use Rattle.pcg.specs.declared.pcg64.Drawn32 as pcg64_drawn
-use Rattle.pcg.specs.declared.pcg64.Drawn64 as pcg64_drawn64
+use Rattle.pcg.specs.declared.pcg32.Pcg32 as pcg32_type
+use Rattle.pcg.specs.declared.pcg64.Pcg64 as pcg64_type
 use Rattle.xoshiro.specs.Generator as xoshiro
-use Rattle.xoshiro.specs.declared.Drawn32 as xoshiro_drawn
-use Rattle.xoshiro.specs.declared.Drawn64 as xoshiro_drawn64
+use Rattle.xoshiro.specs.declared.Xoshiro256PlusPlus as xoshiro_type
 use Rattle.random.specs.Generator.{step, later, word_of, word64_of, steps64, rand_of, u64_of}
 use Rattle.random.specs.GeneratorLaws.{rand_is_high_half}
 use Rattle.random.specs.declared.backend.Backend.TheVariants.{Xoshiro256PlusPlus, Pcg64}
@@ -31,17 +29,17 @@ use Rattle.lent_state.specs.State.{six, small_state, position_state, state_with,
 -- ---- each kind's own words: `s'` is the state after the write
 
 module _ (s t : List ℕ) (s' : List ℕ) where
-  pub xoshiro_moved : kind_in s ≡ 0 → (d : xoshiro_drawn.Drawn32) → d ≡ xoshiro.drawn_high (xoshiro_in s)
+  pub xoshiro_moved : kind_in s ≡ 0 → (d : source.Drawn ℕ xoshiro_type.Xoshiro256PlusPlus) → d ≡ xoshiro.drawn_high (xoshiro_in s)
       → s' ≡ small_state s d.next.s0 d.next.s1 d.next.s2 d.next.s3 → Moves32 s t d.word s' t
   unfolding rand_of word_of step backend_in state_with state_after
   xoshiro_moved k d h w = rw (w, k, h)
 
-  pub pcg32_moved : kind_in s ≡ 2 → (d : pcg32_drawn.Drawn32) → d ≡ pcg32.drawn (pcg32_in s)
+  pub pcg32_moved : kind_in s ≡ 2 → (d : source.Drawn ℕ pcg32_type.Pcg32) → d ≡ pcg32.drawn (pcg32_in s)
       → s' ≡ small_state s d.next.state d.next.inc (get_or s 4 0) (get_or s 5 0) → Moves32 s t d.word s' t
   unfolding rand_of word_of step backend_in state_with state_after
   pcg32_moved k d h w = rw (w, k, h)
 
-  pub pcg64_moved : kind_in s ≡ 3 → (d : pcg64_drawn.Drawn32) → d ≡ pcg64.drawn_high (pcg64_in s)
+  pub pcg64_moved : kind_in s ≡ 3 → (d : source.Drawn ℕ pcg64_type.Pcg64) → d ≡ pcg64.drawn_high (pcg64_in s)
       → s' ≡ small_state s d.next.state.high d.next.state.low d.next.inc.high d.next.inc.low → Moves32 s t d.word s' t
   unfolding rand_of word_of step backend_in state_with state_after
   pcg64_moved k d h w = rw (w, k, h)
@@ -62,17 +60,17 @@ module _ (s t : List ℕ) (s' : List ℕ) where
 
   -- ---- of 64 bits
 
-  pub xoshiro_moved64 : kind_in s ≡ 0 → (d : xoshiro_drawn64.Drawn64) → d ≡ xoshiro.drawn (xoshiro_in s)
+  pub xoshiro_moved64 : kind_in s ≡ 0 → (d : source.Drawn ℕ xoshiro_type.Xoshiro256PlusPlus) → d ≡ xoshiro.drawn (xoshiro_in s)
       → s' ≡ small_state s d.next.s0 d.next.s1 d.next.s2 d.next.s3 → Moves64 s t d.word s' t
   unfolding u64_of word64_of later step backend_in state_with state_after
   xoshiro_moved64 k d h w = rw (w, k, h)
 
-  pub pcg32_moved64 : kind_in s ≡ 2 → (d : pcg32_drawn64.Drawn64) → d ≡ pcg32.drawn_twice (pcg32_in s)
+  pub pcg32_moved64 : kind_in s ≡ 2 → (d : source.Drawn ℕ pcg32_type.Pcg32) → d ≡ pcg32.drawn_twice (pcg32_in s)
       → s' ≡ small_state s d.next.state d.next.inc (get_or s 4 0) (get_or s 5 0) → Moves64 s t d.word s' t
   unfolding u64_of word64_of later step backend_in state_with state_after
   pcg32_moved64 k d h w = rw (w, k, h)
 
-  pub pcg64_moved64 : kind_in s ≡ 3 → (d : pcg64_drawn64.Drawn64) → d ≡ pcg64.drawn (pcg64_in s)
+  pub pcg64_moved64 : kind_in s ≡ 3 → (d : source.Drawn ℕ pcg64_type.Pcg64) → d ≡ pcg64.drawn (pcg64_in s)
       → s' ≡ small_state s d.next.state.high d.next.state.low d.next.inc.high d.next.inc.low → Moves64 s t d.word s' t
   unfolding u64_of word64_of later step backend_in state_with state_after
   pcg64_moved64 k d h w = rw (w, k, h)

@@ -1,5 +1,5 @@
 -- Little-endian numbers in a list of bytes.
-use Rattle.std.specs.Prelude.{◌≡◌, ℕ, zero, suc, ◌+◌, ◌*◌, ◌^◌, ◌<◌, List, slice_index}
+use Rattle.std.specs.Prelude.{ℕ, zero, suc, ◌+◌, ◌*◌, ◌^◌, ◌<◌, List, slice_index}
 
 -- the byte k places after the place i; 0 past the end of the list
 abbrev pub byte_at : (s : List ℕ) (i k : ℕ) → ℕ
@@ -13,8 +13,3 @@ AreBytes s = (j : ℕ) → slice_index s j < 2 ^ 8
 unfoldable pub little : (n : ℕ) (s : List ℕ) (i : ℕ) → ℕ
 little zero s i = 0
 little (suc n) s i = little n s i + byte_at s i n * 2 ^ (8 * n)
-
--- r is that number, and has no more bits than n bytes have
-pub record LittleIs (n : ℕ) (s : List ℕ) (i r : ℕ) : Type 0 where
-  pub value : r ≡ little n s i
-  pub small : r < 2 ^ (8 * n)

@@ -1,7 +1,8 @@
 -- The laws of little-endian numbers.
 use Rattle.std.specs.Prelude.{◌≡◌, ℕ, zero, suc, ◌+◌, ◌*◌, ◌^◌, ◌<◌, ◌≤◌, List, slice_index}
-use Rattle.std.proofs.Common.{sym, ap, ◌∙◌, add_assoc, add-suc, add-zero, mul-le-mul_right, arith, pow-add}
-use Rattle.wrapping.specs.Bytes.{AreBytes, little, LittleIs}
+use Rattle.std.specs.Int.{w32, w64, from_le_bytes}
+use Rattle.std.proofs.Common.{ap, ◌∙◌, add_assoc, add-suc, add-zero, mul-le-mul_right, arith, pow-add}
+use Rattle.wrapping.specs.Bytes.{AreBytes, little}
 
 -- the number of n + m bytes: the first n below the other m
 pub little_joined : (n m : ℕ) (s : List ℕ) (i : ℕ) → little (n + m) s i ≡ little n s i + little m s (i + n) * 2 ^ (8 * n)
@@ -24,21 +25,14 @@ little_lt (suc n) s i h = rw power (room (2 ^ (8 * n)) (little_lt n s i h) (h (i
     room : {a b : ℕ} (P : ℕ) → a < P → b < 2 ^ 8 → a + b * P < P * 2 ^ 8
     room {a} {b} P l u = let most : suc b * P ≤ 2 ^ 8 * P = mul-le-mul_right P u in omega arith
 
--- a byte by itself
-pub one_byte : (s : List ℕ) (i : ℕ) {r : ℕ} → r ≡ slice_index s i → r < 256 → LittleIs 1 s i r
+-- the word of four bytes, and of eight, is the number of those that they are in the list
+pub four_bytes : (b s : List ℕ) (i : ℕ) → ((k : ℕ) → k < 4 → slice_index b k ≡ slice_index s (i + k)) → from_le_bytes w32 b ≡ little 4 s i
 unfolding little
-one_byte s i {r} e h = record { value = rw add-zero (omega arith); small = h }
+four_bytes b s i h =
+    rw (h 0 (omega arith), h 1 (omega arith), h 2 (omega arith), h 3 (omega arith)) (omega arith)
 
--- n bytes, and the n bytes after them above
-pub twice_as_many : (n : ℕ) {s : List ℕ} {i j a b : ℕ} → LittleIs n s i a → LittleIs n s j b → j ≡ i + n
-    → LittleIs (n + n) s i (a + b * 2 ^ (8 * n))
-twice_as_many n {s} {i} {j} {a} {b} low high next = record {
-  value = rw (low.value, high.value, next) (sym (little_joined n n s i));
-  small = rw power (room (2 ^ (8 * n)) low.small high.small);
-}
-  where
-    power : 2 ^ (8 * (n + n)) ≡ 2 ^ (8 * n) * 2 ^ (8 * n)
-    power = ap (λ (k : ℕ). 2 ^ k) (omega arith) ∙ pow-add 2 (8 * n) (8 * n)
-
-    room : (P : ℕ) → a < P → b < P → a + b * P < P * P
-    room P h l = let most : suc b * P ≤ P * P = mul-le-mul_right P l in omega arith
+pub eight_bytes : (b s : List ℕ) (i : ℕ) → ((k : ℕ) → k < 8 → slice_index b k ≡ slice_index s (i + k)) → from_le_bytes w64 b ≡ little 8 s i
+unfolding little
+eight_bytes b s i h =
+    rw (h 0 (omega arith), h 1 (omega arith), h 2 (omega arith), h 3 (omega arith)) (
+    rw (h 4 (omega arith), h 5 (omega arith), h 6 (omega arith), h 7 (omega arith)) (omega arith))

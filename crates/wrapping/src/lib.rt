@@ -1,4 +1,4 @@
-// Arithmetic that wraps, where the Rust has `wrapping_mul`, `rotate_left`, `rotate_right`, `from_le_bytes` and `u128`.
+// Arithmetic that wraps, under one name for each width, and numbers of 128 bits as two words, where the Rust has a `u128`.
 #![tactic(auto)]
 
 mod bytes;

@@ -1,11 +1,11 @@
 // A number of 128 bits as two words, where the Rust has a `u128`: sum and product modulo 2^128.
 ghost use Rattle.wrapping.specs.Promises.{WideWrappingAddPromise, WideWrappingMulPromise};
 
-use super::product::{mul_u64, upper_u64};
+use super::product::upper_u64;
 
 // The high and the low word of 64 bits.
 #[repr(C)]
-#[derive(Clone, Copy)]
+#[derive(Clone, Copy, PartialEq, Eq, Debug)]
 pub struct Wide {
     pub high: u64,
     pub low: u64,
@@ -16,18 +16,13 @@ impl Wide {
     pub fn wrapping_add(self, other: Wide) -> Wide
         ensures { WideWrappingAddPromise self other result }
     {
-        let low = std::num::wrapping_add_u64(self.low, other.low);
-        let high = std::num::wrapping_add_u64(self.high, other.high);
-        if low < other.low {
-            Wide {
-                high: std::num::wrapping_add_u64(high, 1),
-                low: low,
-            }
-        } else {
-            Wide {
-                high: high,
-                low: low,
-            }
+        let low = self.low.wrapping_add(other.low);
+        let high = self.high.wrapping_add(other.high);
+        // a test, and not `overflowing_add`: of this the compiler makes an addition with carry in Pcg64's loops too
+        let carry = u64::from(low < other.low);
+        Wide {
+            high: high.wrapping_add(carry),
+            low,
         }
     }
 
@@ -35,12 +30,12 @@ impl Wide {
     pub fn wrapping_mul(self, other: Wide) -> Wide
         ensures { WideWrappingMulPromise self other result }
     {
-        let left = mul_u64(self.high, other.low);
-        let right = mul_u64(self.low, other.high);
-        let cross = std::num::wrapping_add_u64(left, right);
+        let left = self.high.wrapping_mul(other.low);
+        let right = self.low.wrapping_mul(other.high);
+        let cross = left.wrapping_add(right);
         Wide {
-            high: std::num::wrapping_add_u64(upper_u64(self.low, other.low), cross),
-            low: mul_u64(self.low, other.low),
+            high: upper_u64(self.low, other.low).wrapping_add(cross),
+            low: self.low.wrapping_mul(other.low),
         }
     }
 }

@@ -3,8 +3,7 @@
 use Rattle.std.specs.Prelude.{ℕ, ◌+◌, ◌*◌, ◌/◌, ◌%◌, ◌^◌, bit_xor}
 use Rattle.wrapping.specs.Rotate.{rotate_left}
 use Rattle.xoshiro.specs.declared.Xoshiro256PlusPlus.{Xoshiro256PlusPlus}
-use Rattle.xoshiro.specs.declared.Drawn64.{Drawn64}
-use Rattle.xoshiro.specs.declared.Drawn32.{Drawn32}
+use Rattle.source.specs.declared.Drawn.{Drawn}
 
 -- the state with these words
 abbrev pub parts : (s0 s1 s2 s3 : ℕ) → Xoshiro256PlusPlus
@@ -25,9 +24,9 @@ stepped x =
     parts s0 s1 (bit_xor s2 t) (rotate_left 64 s3 45)
 
 -- a word is the old state's, and the state steps
-abbrev pub drawn : Xoshiro256PlusPlus → Drawn64
+abbrev pub drawn : Xoshiro256PlusPlus → Drawn ℕ Xoshiro256PlusPlus
 drawn x = record { word = output x; next = stepped x }
 
 -- the 32-bit word is the high half (document 01; the authors' file has none)
-abbrev pub drawn_high : Xoshiro256PlusPlus → Drawn32
+abbrev pub drawn_high : Xoshiro256PlusPlus → Drawn ℕ Xoshiro256PlusPlus
 drawn_high x = record { word = output x / 2 ^ 32; next = stepped x }

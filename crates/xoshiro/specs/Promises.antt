@@ -3,8 +3,7 @@ use Rattle.std.specs.Prelude.{◌≡◌, ℕ, List}
 use Rattle.xoshiro.specs.Generator.{drawn, drawn_high, parts}
 use Rattle.xoshiro.specs.Jump.{jumped}
 use Rattle.xoshiro.specs.Seed.{seeded, seeded_bytes}
-use Rattle.xoshiro.specs.declared.Drawn32.{Drawn32}
-use Rattle.xoshiro.specs.declared.Drawn64.{Drawn64}
+use Rattle.source.specs.declared.Drawn.{Drawn}
 use Rattle.xoshiro.specs.declared.Xoshiro256PlusPlus.{Xoshiro256PlusPlus}
 
 -- `from_parts`: the state with these words
@@ -20,11 +19,11 @@ abbrev pub XoshiroFromSeedPromise : List ℕ → Xoshiro256PlusPlus → Type 0
 XoshiroFromSeedPromise seed r = r ≡ seeded_bytes seed
 
 -- `next_u64`: the old state's word, and the state after it
-abbrev pub XoshiroNextU64Promise : Xoshiro256PlusPlus → Drawn64 → Type 0
+abbrev pub XoshiroNextU64Promise : Xoshiro256PlusPlus → Drawn ℕ Xoshiro256PlusPlus → Type 0
 XoshiroNextU64Promise self r = r ≡ drawn self
 
 -- `next_u32`: the high half of that word, and the state after it
-abbrev pub XoshiroNextU32Promise : Xoshiro256PlusPlus → Drawn32 → Type 0
+abbrev pub XoshiroNextU32Promise : Xoshiro256PlusPlus → Drawn ℕ Xoshiro256PlusPlus → Type 0
 XoshiroNextU32Promise self r = r ≡ drawn_high self
 
 -- `jump`: the authors' jump

@@ -3,8 +3,7 @@ use Rattle.std.specs.Prelude.{◌≡◌, ℕ, List}
 use Rattle.std.proofs.Common.{sym, ◌∙◌}
 use Rattle.xoshiro.specs.Promises.{XoshiroFromPartsPromise, XoshiroFromSeedPromise, XoshiroFromU64SeedPromise}
 use Rattle.xoshiro.specs.Promises.{XoshiroJumpPromise, XoshiroNextU32Promise, XoshiroNextU64Promise}
-use Rattle.xoshiro.specs.declared.Drawn32.{Drawn32}
-use Rattle.xoshiro.specs.declared.Drawn64.{Drawn64}
+use Rattle.source.specs.declared.Drawn.{Drawn}
 use Rattle.xoshiro.specs.declared.Xoshiro256PlusPlus.{Xoshiro256PlusPlus}
 
 pub one_xoshiro_from_parts : (s0 s1 s2 s3 : ℕ) {a b : Xoshiro256PlusPlus}
@@ -19,10 +18,10 @@ pub one_xoshiro_from_seed : (seed : List ℕ) {a b : Xoshiro256PlusPlus}
     → XoshiroFromSeedPromise seed a → XoshiroFromSeedPromise seed b → a ≡ b
 one_xoshiro_from_seed seed p q = p ∙ sym q
 
-pub one_xoshiro_next_u64 : (self : Xoshiro256PlusPlus) {a b : Drawn64} → XoshiroNextU64Promise self a → XoshiroNextU64Promise self b → a ≡ b
+pub one_xoshiro_next_u64 : (self : Xoshiro256PlusPlus) {a b : Drawn ℕ Xoshiro256PlusPlus} → XoshiroNextU64Promise self a → XoshiroNextU64Promise self b → a ≡ b
 one_xoshiro_next_u64 self p q = p ∙ sym q
 
-pub one_xoshiro_next_u32 : (self : Xoshiro256PlusPlus) {a b : Drawn32} → XoshiroNextU32Promise self a → XoshiroNextU32Promise self b → a ≡ b
+pub one_xoshiro_next_u32 : (self : Xoshiro256PlusPlus) {a b : Drawn ℕ Xoshiro256PlusPlus} → XoshiroNextU32Promise self a → XoshiroNextU32Promise self b → a ≡ b
 one_xoshiro_next_u32 self p q = p ∙ sym q
 
 pub one_xoshiro_jump : (self : Xoshiro256PlusPlus) {a b : Xoshiro256PlusPlus}

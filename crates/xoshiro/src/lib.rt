@@ -3,36 +3,22 @@
 #![tactic(auto)]
 
 ghost use Rattle.std.specs.Prelude.{◌≡◌};
-ghost use Rattle.xoshiro.specs.Generator.{output, stepped};
+ghost use Rattle.xoshiro.specs.Generator.{drawn, drawn_high, output, stepped};
 ghost use Rattle.xoshiro.specs.Promises.{XoshiroFromPartsPromise, XoshiroNextU64Promise, XoshiroNextU32Promise};
 
 mod jump;
 mod seed;
 
+use source::{Drawn, Source};
+
 // The four words of state, s[0] to s[3] in the authors' file.
 #[repr(C)]
-#[derive(Clone, Copy)]
+#[derive(Clone, Copy, PartialEq, Eq, Debug)]
 pub struct Xoshiro256PlusPlus {
     pub s0: u64,
     pub s1: u64,
     pub s2: u64,
     pub s3: u64,
-}
-
-// A word of 64 bits, and the generator after it.
-#[repr(C)]
-#[derive(Clone, Copy)]
-pub struct Drawn64 {
-    pub word: u64,
-    pub next: Xoshiro256PlusPlus,
-}
-
-// A word of 32 bits, and the generator after it.
-#[repr(C)]
-#[derive(Clone, Copy)]
-pub struct Drawn32 {
-    pub word: u32,
-    pub next: Xoshiro256PlusPlus,
 }
 
 impl Xoshiro256PlusPlus {
@@ -69,23 +55,37 @@ impl Xoshiro256PlusPlus {
     }
 
     // The next word. It is made of the old state.
-    pub fn next_u64(self) -> Drawn64
+    pub fn next_u64(self) -> Drawn<u64, Xoshiro256PlusPlus>
         ensures { XoshiroNextU64Promise self result }
     {
         let word = self.word();
         let next = self.step();
-        Drawn64 { word, next }
+        Drawn { word, next }
     }
 
     // The high half of the next 64-bit word.
-    pub fn next_u32(self) -> Drawn32
+    pub fn next_u32(self) -> Drawn<u32, Xoshiro256PlusPlus>
         ensures { XoshiroNextU32Promise self result }
     {
         let d = self.next_u64();
         let next = d.next;
-        Drawn32 {
+        Drawn {
             word: (d.word >> 32) as u32,
             next,
         }
+    }
+}
+
+impl Source for Xoshiro256PlusPlus {
+    ghost drawn = { drawn_high };
+
+    ghost drawn64 = { drawn };
+
+    fn next_u32(self) -> Drawn<u32, Xoshiro256PlusPlus> {
+        Xoshiro256PlusPlus::next_u32(self)
+    }
+
+    fn next_u64(self) -> Drawn<u64, Xoshiro256PlusPlus> {
+        Xoshiro256PlusPlus::next_u64(self)
     }
 }

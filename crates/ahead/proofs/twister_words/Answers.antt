@@ -1,24 +1,10 @@
--- `twister_words` meets its contract: the invariant is that i words are put.
-use borrow.Author.Rules.{rules}
-use mathlib.Core.Path.{◌≡◌}
-use native.Mathlib.Omega.{arith}
-use lib.ListN.{length, length-set}
+-- `twister_words` meets its contract: no word yet, and then one more at each entry.
+use Rattle.std.proofs.Common.{arith}
 use Rattle.ahead.specs.AheadLaws.{put_none, twister_more}
 use Rattle.ahead.proofs.twister_words.Goals as goal
 
-pub loop-i-init : goal.loop-i-init
-loop-i-init c = (search rules, search rules, put_none)
+pub loop-slot-init : goal.loop-slot-init
+loop-slot-init c = put_none
 
-pub loop-i-preserved : goal.loop-i-preserved
-loop-i-preserved c =
-    let (within, same, put) = c.loop-i.invariant in
-    (omega arith, simp length-set same, twister_more (omega arith) put c.rand_in-s.ensures)
-
-pub shape_of-list : goal.shape_of-list
-shape_of-list c = c.loop-i.invariant.1
-
-pub returns : goal.returns
-returns c =
-    let (within, same, put) = c.loop-i.invariant in
-    let all : length c.args.list.now ≡ c.loop-i.i = omega arith in
-    rw all put
+pub loop-slot-preserved : goal.loop-slot-preserved
+loop-slot-preserved c = twister_more (omega arith) c.loop-slot.invariant c.rand_in-s.ensures

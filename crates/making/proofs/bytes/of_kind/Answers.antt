@@ -1,37 +1,25 @@
--- `of_kind` meets its contract: the bytes are copied whole, and each way out is the law of its kind.
-use borrow.Author.Rules.{rules}
-use lib.ListN.{length}
-use mathlib.Core.Path.{◌≡◌, sym, ◌∙◌}
-use Rattle.making.specs.Make.{seed_length_of}
-use Rattle.making.specs.MakeLaws.{short_seed, long_seed, kind_xoshiro, kind_twister, kind_pcg32, kind_pcg64}
+-- `of_kind` meets its contract: each arm is the law of its kind.
+use Rattle.std.proofs.Common.{sym, ◌∙◌, arith}
+use Rattle.making.specs.MakeLaws.{long_seed, kind_xoshiro, kind_twister, kind_pcg32, kind_pcg64}
 use Rattle.making.proofs.bytes.of_kind.Goals as goal
 
-pub copy-requires : goal.copy-requires
-copy-requires c =
-    let whole : length c.args.seed.now ≡ seed_length_of c.args.kind = search rules in
-    sym (whole ∙ short_seed _ c.if-kind-eq2.true)
+pub returns-in_ok-try_into-in-0 : goal.returns-in_ok-try_into-in-0
+returns-in_ok-try_into-in-0 c =
+    let whole = c.in_ok-try_into-in-0.ensures.1 in
+    (rw c.in-0.is whole.long, rw (c.from_xoshiro.ensures, c.from_seed.ensures, whole.same) (kind_xoshiro _ _ c.in-0.is))
 
-pub returns-then-kind-eq2 : goal.returns-then-kind-eq2
-returns-then-kind-eq2 c =
-    rw (c.from_pcg32.ensures, c.from_seed.ensures, c.copy.ensures)
-    (kind_pcg32 _ _ c.if-kind-eq2.true)
+pub returns-in_ok-try_into-in-1 : goal.returns-in_ok-try_into-in-1
+returns-in_ok-try_into-in-1 c =
+    let whole = c.in_ok-try_into-in-1.ensures.1 in
+    (rw c.in-1.is whole.long, rw (c.from_mersenne_twister.ensures, c.from_seed-in-1.ensures, whole.same) (kind_twister _ _ c.in-1.is))
 
-pub copy-requires-2 : goal.copy-requires-2
-copy-requires-2 c =
-    let whole : length c.args.seed.now ≡ seed_length_of c.args.kind = search rules in
-    sym (whole ∙ long_seed _ c.if-kind-eq2.false)
+pub returns-in_ok-try_into-in-2 : goal.returns-in_ok-try_into-in-2
+returns-in_ok-try_into-in-2 c =
+    let whole = c.in_ok-try_into-in-2.ensures.1 in
+    (rw c.in-2.is whole.long, rw (c.from_pcg32.ensures, c.from_seed-in-2.ensures, whole.same) (kind_pcg32 _ _ c.in-2.is))
 
-pub returns-then-kind-eq0 : goal.returns-then-kind-eq0
-returns-then-kind-eq0 c =
-    rw (c.from_xoshiro.ensures, c.from_seed-then-kind-eq0.ensures, c.copy-2.ensures)
-    (kind_xoshiro _ _ c.if-kind-eq0.true)
-
-pub returns-then-kind-eq1 : goal.returns-then-kind-eq1
-returns-then-kind-eq1 c =
-    rw (c.from_mersenne_twister.ensures, c.from_seed-then-kind-eq1.ensures, c.copy-2.ensures)
-    (kind_twister _ _ c.if-kind-eq1.true)
-
-pub returns : goal.returns
-returns c =
-    rw (c.from_pcg64.ensures, c.from_seed-2.ensures, c.copy-2.ensures)
-    (kind_pcg64 _ _ c.if-kind-eq0.false c.if-kind-eq1.false c.if-kind-eq2.false)
+pub returns-in_ok-try_into-in_default : goal.returns-in_ok-try_into-in_default
+returns-in_ok-try_into-in_default c =
+    let whole = c.in_ok-try_into-in_default.ensures.1 in
+    let others = kind_pcg64 c.args.kind c.args.seed.now (λ x. omega arith) (λ t. omega arith) (λ p. omega arith) in
+    (whole.long ∙ sym (long_seed c.args.kind (λ p. omega arith)), rw (c.from_pcg64.ensures, c.from_seed-in_default.ensures, whole.same) others)

@@ -15,21 +15,12 @@ returns-then-d-used c =
     let h = c.loop-settled.invariant in
     c.told.ensures ∙ standing_short h.standing c.loop-settled-test.true c.if-d-used.true
 
-pub overflow_add-settled : goal.overflow_add-settled
-overflow_add-settled c = omega arith
-
-pub overflow_add-used : goal.overflow_add-used
-overflow_add-used c = omega arith
-
-pub loop-settled-smaller : goal.loop-settled-smaller
-loop-settled-smaller c = omega arith
-
 pub loop-settled-preserved : goal.loop-settled-preserved
 loop-settled-preserved c =
     let good = c.is_good.ensures in
     looking_on c.loop-settled.invariant c.loop-settled-test.true (omega (arith, c.if-d-used.false)) (twister_next_lem c.rand_in-s.ensures)
     (elim c.if-is_good.branch [
-      | then-is_good w ↦ inl (sym good ∙ w.if-is_good.true, w.settled-is, w.bound-is ∙ w.next_bound-bound.ensures)
+      | then-is_good w ↦ inl (sym good ∙ w.if-is_good.true, w.settled-is, w.bound-is ∙ w.bound_after-bound.ensures)
       | else-is_good w ↦ inr (sym good ∙ w.if-is_good.false, w.settled-is, w.bound-is)
     ])
 

@@ -1,11 +1,6 @@
 -- `settle` meets its contract: the invariant is `Settling`, and each way through the loop is one law of it.
-use Prim.Native.Nat.{◌-◌}
-use lib.ListN.{length}
 use Rattle.rehearsal.specs.Settling.{Settling}
 use Rattle.rehearsal.proofs.settling.settle.Given as goal
 
 abbrev pub invariant-loop-i : goal.invariant-loop-i
 invariant-loop-i l = Settling l.initial.list l.initial.bound l.falls l.i l.settled l.bound l.list
-
-abbrev pub decreases-loop-i : goal.decreases-loop-i
-decreases-loop-i l = length l.initial.list - l.i
