@@ -13,7 +13,8 @@ use Rattle.xoshiro.specs.Seed as xoshiro_seed
 use Rattle.xoshiro.specs.declared.Xoshiro256PlusPlus as xoshiro_type
 use Rattle.random.specs.declared.backend.Backend.TheVariants.{Xoshiro256PlusPlus, MersenneTwister, Pcg32, Pcg64}
 use Rattle.random.specs.declared.backend.Random.{Random}
-use Rattle.making.specs.declared.bytes.Made.{Made}
+use Rattle.making.specs.declared.bytes.Made as code
+use Rattle.words.specs.Numbers.{refusal_in}
 
 -- the twister that stands beside a kind with no use for it: zeros
 abbrev pub zero_twister : twister_type.MersenneTwister
@@ -53,6 +54,15 @@ of_kind kind s =
     cond (eqb kind 0) (of_xoshiro (xoshiro_seed.seeded_bytes s))
     (cond (eqb kind 1) (of_twister (twister.seeded (twister.folded s)))
     (cond (eqb kind 2) (of_pcg32 (pcg32.seeded_bytes s)) (of_pcg64 (pcg64.seeded_bytes s))))
+
+-- What a making says in document 01's numbers: the refusal's, 0 where there is none, and the generator.
+pub record Made : Type 0 where
+  pub refusal : ℕ
+  pub generator : Random
+
+-- one of the code
+abbrev pub making_of : code.Made → Made
+making_of m = record { refusal = refusal_in m.refusal; generator = m.generator }
 
 -- a refusal with this number
 abbrev pub refused_making : ℕ → Made

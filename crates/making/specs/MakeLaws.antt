@@ -11,7 +11,7 @@ use Rattle.pcg.specs.Pcg64 as pcg64
 use Rattle.xoshiro.specs.Seed as xoshiro_seed
 use Rattle.random.specs.declared.backend.Random.{Random}
 use Rattle.words.specs.Refusal as refusal
-use Rattle.making.specs.declared.bytes.Made.{Made}
+use Rattle.making.specs.Make.{Made}
 use Rattle.making.specs.Make.{of_xoshiro, of_twister, of_pcg32, of_pcg64, seed_length_of, of_kind}
 use Rattle.making.specs.Make.{refused_making, answered_making, made_bytes}
 

@@ -13,7 +13,7 @@ use Rattle.making.specs.Promises.{FromMersenneTwisterPromise, FromPcg32Promise, 
 use Rattle.making.specs.Promises.{FromXoshiroPromise, MakePromise, NewMersenneTwisterWithSeedPromise, NewPcg32WithSeedPromise}
 use Rattle.making.specs.Promises.{NewPcg32WithStreamPromise, NewPcg64WithSeedPromise, NewPcg64WithStreamPromise, MakingSeedInPromise}
 use Rattle.making.specs.Promises.{SeedPromise, ZerosPromise}
-use Rattle.making.specs.declared.bytes.Made.{Made}
+use Rattle.making.specs.Make.{Made}
 
 pub one_make : (kind : ℕ) (seed : List ℕ) {a b : Made} → MakePromise kind seed a → MakePromise kind seed b → a ≡ b
 one_make kind seed p q = p ∙ sym q

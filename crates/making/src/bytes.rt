@@ -1,7 +1,8 @@
 // Making a generator from a kind number and a byte seed: the one place that refuses with 10 and 11.
 ghost use Rattle.std.specs.Prelude.{◌≡◌, ◌≤◌, length};
 ghost use Rattle.std.specs.Result.{OkIff};
-ghost use Rattle.making.specs.Make.{seed_length_of, of_kind, refused_making};
+ghost use Rattle.making.specs.Make.{seed_length_of, of_kind, making_of, refused_making};
+ghost use Rattle.words.specs.Numbers.{number_of};
 ghost use Rattle.making.specs.Promises.{MakePromise};
 
 use crate::own_calls::{from_mersenne_twister, from_pcg32, from_pcg64, from_xoshiro, zeros};
@@ -9,13 +10,13 @@ use mersenne_twister::MersenneTwister;
 use pcg::{Pcg32, Pcg64};
 use random::Random;
 use std::array::TryFromSliceError;
-use words::refusal;
+use words::Refusal;
 use xoshiro::Xoshiro256PlusPlus;
 
-// The refusal's number, 0 for none, and the generator; refused, it is kind 0 with four zero words.
+// A generator, and why it could not be made; refused, it is kind 0 with four zero words, as document 01 has it.
 #[derive(Clone, Copy)]
 pub struct Made {
-    pub refusal: u32,
+    pub refusal: Option<Refusal>,
     pub generator: Random,
 }
 
@@ -34,27 +35,26 @@ fn of_kind(kind: u32, seed: &[u8]) -> Result<Random, TryFromSliceError>
 
 // A kind above 3 is refused with 10, and then a seed not of the kind's length with 11.
 pub fn make(kind: u32, seed: &[u8]) -> Made
-    ensures { MakePromise kind seed.now result }
+    ensures { MakePromise kind seed.now (making_of result) }
 {
     if kind > 3 {
-        return refused_making(refusal::KIND);
+        return refused_making(Refusal::Kind);
     }
     match of_kind(kind, seed) {
         Ok(generator) => Made {
-            refusal: refusal::ANSWERED,
+            refusal: None,
             generator,
         },
-        Err(_) => refused_making(refusal::SEED_LENGTH),
+        Err(_) => refused_making(Refusal::SeedLength),
     }
 }
 
-// A refusal with this number.
-fn refused_making(number: u32) -> Made
-    ensures { result ≡ refused_making number }
+// Why it could not be made, beside the zeros.
+fn refused_making(refusal: Refusal) -> Made
+    ensures { making_of result ≡ refused_making (number_of refusal) }
 {
-    let generator = zeros();
     Made {
-        refusal: number,
-        generator,
+        refusal: Some(refusal),
+        generator: zeros(),
     }
 }

@@ -9,8 +9,8 @@ use Rattle.parts.specs.Decides.{decides_once}
 use Rattle.parts.specs.Promises.{KindPromise, MtiInPromise, MtiPromise, SameInPromise, SamePromise, SameWordsPromise, SetMtiInPromise}
 use Rattle.parts.specs.Promises.{SetMtiPromise, SmallWordsPromise, SplitInPromise, SplitPromise, PartsTwistInPromise, TwistPromise}
 use Rattle.parts.specs.declared.read_out.Small.{Small}
-use Rattle.parts.specs.declared.splitting.EngineSplit.{EngineSplit}
-use Rattle.parts.specs.declared.splitting.SplitAnswer.{SplitAnswer}
+use Rattle.parts.specs.Splitting.{EngineSplit}
+use Rattle.parts.specs.Splitting.{SplitAnswer}
 
 pub one_same_words : (a b : List ℕ) {r r' : Bool} → SameWordsPromise a b r → SameWordsPromise a b r' → r ≡ r'
 one_same_words a b p q = decides_once _ _ _ p q

@@ -4,7 +4,7 @@ use Rattle.std.proofs.Common.{sym, ◌∙◌, ap, arith}
 use Rattle.random.specs.declared.backend.Backend.{Backend}
 use Rattle.random.specs.declared.backend.Backend.TheVariants.{Xoshiro256PlusPlus, MersenneTwister, Pcg32, Pcg64}
 use Rattle.random.specs.declared.backend.Random.{Random}
-use Rattle.parts.specs.declared.splitting.EngineSplit.{EngineSplit}
+use Rattle.parts.specs.Splitting.{EngineSplit}
 use Rattle.parts.specs.Kind.{kind_of}
 use Rattle.making.specs.Make.{zero_generator}
 use Rattle.parts.specs.Splitting.{engine_split_by, engine_split, split_by, split_of}

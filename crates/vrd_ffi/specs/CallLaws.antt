@@ -13,7 +13,7 @@ use Rattle.filling.specs.Fill.{FilledFrom}
 use Rattle.parts.specs.Decides.{Decides, decides_no}
 use Rattle.parts.specs.OwnParts.{own_parts}
 use Rattle.parts.specs.Splitting.{engine_split}
-use Rattle.parts.specs.declared.splitting.EngineSplit.{EngineSplit}
+use Rattle.parts.specs.Splitting.{EngineSplit}
 use Rattle.shuffle.specs.Shuffle.{shuffle_by, shuffled}
 use Rattle.vrd_ffi.specs.declared.answers.Number.{Number}
 use Rattle.lent_state.specs.Answers.{gives, formed, of_known}

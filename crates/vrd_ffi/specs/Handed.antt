@@ -25,9 +25,9 @@ use Rattle.float_draws.specs.declared.coins.Flip.{Flip}
 use Rattle.float_draws.specs.declared.intervals.Spread.{Spread}
 use Rattle.float_draws.specs.declared.units.Drawn32.{Drawn32}
 use Rattle.float_draws.specs.declared.units.Drawn64.{Drawn64}
-use Rattle.making.specs.declared.bytes.Made.{Made}
+use Rattle.making.specs.Make.{Made}
 use Rattle.parts.specs.OwnParts.{own_parts}
-use Rattle.parts.specs.declared.splitting.EngineSplit.{EngineSplit}
+use Rattle.parts.specs.Splitting.{EngineSplit}
 use Rattle.vrd_ffi.specs.declared.answers.Choice.{Choice}
 use Rattle.vrd_ffi.specs.declared.answers.Coin.{Coin}
 use Rattle.vrd_ffi.specs.declared.answers.Integer.{Integer}

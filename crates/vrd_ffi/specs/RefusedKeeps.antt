@@ -34,9 +34,9 @@ use Rattle.float_draws.specs.Coins.{flip_from}
 use Rattle.float_draws.proofs.Laws.{flip_keeps, spread_keeps}
 use Rattle.float_draws.specs.Spreads.{spread_from}
 use Rattle.making.specs.Make.{made_bytes}
-use Rattle.making.specs.declared.bytes.Made.{Made}
+use Rattle.making.specs.Make.{Made}
 use Rattle.parts.specs.Splitting.{engine_split}
-use Rattle.parts.specs.declared.splitting.EngineSplit.{EngineSplit}
+use Rattle.parts.specs.Splitting.{EngineSplit}
 use Rattle.vrd_ffi.specs.declared.answers.Choice.{Choice}
 use Rattle.vrd_ffi.specs.declared.answers.Coin.{Coin}
 use Rattle.vrd_ffi.specs.declared.answers.Integer.{Integer}

@@ -1,11 +1,11 @@
 -- What each public call promises of its answer: the contracts of src/, by name.
-use Rattle.std.specs.Prelude.{Bool, ◌≡◌, ◌*◌, ℕ, Result, Ok, Err}
+use Rattle.std.specs.Prelude.{Bool, ◌≡◌, ◌*◌, ℕ, Option, Result, Ok, Err}
 use Rattle.words.specs.declared.outcome.Outcome.{Outcome}
 use Rattle.words.specs.declared.refusal.Refusal.{Refusal}
 use Rattle.words.specs.declared.reply.Given.{Given}
 use Rattle.words.specs.declared.reply.Reply.{Reply}
 use Rattle.words.specs.Draw.{good, quotient, refused, gives}
-use Rattle.words.specs.Numbers.{number_of, numbered}
+use Rattle.words.specs.Numbers.{number_of, numbered, refusal_in}
 use Rattle.words.specs.Outcomes.{raised_modulo}
 use Rattle.words.specs.Threshold.{threshold}
 
@@ -40,6 +40,10 @@ RaisedPromise n o r = r ≡ raised_modulo n o
 -- a refusal's number (document 01, "When the unit says no")
 abbrev pub RefusalNumberPromise : Refusal → ℕ → Type 0
 RefusalNumberPromise r number = number ≡ number_of r
+
+-- what a check comes to, as a number: 0 where nothing is refused
+abbrev pub CheckNumberPromise : Option Refusal → ℕ → Type 0
+CheckNumberPromise r number = number ≡ refusal_in r
 
 -- a value, the words used, and the generator after them
 abbrev pub RepliesPromise : {T G : Type 0} → T → ℕ → G → Reply T G → Type 0

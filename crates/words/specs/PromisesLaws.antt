@@ -1,12 +1,12 @@
 -- Each promise leaves one answer: two that both meet it are equal.
-use Rattle.std.specs.Prelude.{Bool, ◌≡◌, ℕ, Result}
+use Rattle.std.specs.Prelude.{Bool, ◌≡◌, ℕ, Option, Result}
 use Rattle.std.proofs.Common.{sym, ◌∙◌, ap₂}
 use Rattle.words.specs.declared.outcome.Outcome.{Outcome}
 use Rattle.words.specs.declared.refusal.Refusal.{Refusal}
 use Rattle.words.specs.declared.reply.Given.{Given}
 use Rattle.words.specs.declared.reply.Reply.{Reply}
 use Rattle.words.specs.Promises.{GivesPromise, IsGoodPromise, NumberedPromise, ProductPromise, QuotientPromise, RaisedPromise}
-use Rattle.words.specs.Promises.{RaisesPromise}
+use Rattle.words.specs.Promises.{CheckNumberPromise, RaisesPromise}
 use Rattle.words.specs.NumbersLaws.{numbers_apart}
 use Rattle.words.specs.Promises.{RefusalNumberPromise, RefusedPromise, RefusesPromise, RepliesPromise, ThresholdPromise}
 
@@ -33,6 +33,9 @@ one_raised n o p q = p ∙ sym q
 
 pub one_refusal_number : (r : Refusal) {a b : ℕ} → RefusalNumberPromise r a → RefusalNumberPromise r b → a ≡ b
 one_refusal_number r p q = p ∙ sym q
+
+pub one_check_number : (r : Option Refusal) {a b : ℕ} → CheckNumberPromise r a → CheckNumberPromise r b → a ≡ b
+one_check_number r p q = p ∙ sym q
 
 pub one_replies : {T G : Type 0} (value : T) (used : ℕ) (next : G) {a b : Reply T G}
     → RepliesPromise value used next a → RepliesPromise value used next b → a ≡ b

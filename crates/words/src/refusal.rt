@@ -1,6 +1,6 @@
 // The refusals of document 01, "When the unit says no": an enum for code, and the number that document 01 has for each. No other file has
 // the numbers; specs/Refusal.antt names the same ones for contracts and proofs.
-ghost use Rattle.words.specs.Promises.{RefusalNumberPromise};
+ghost use Rattle.words.specs.Promises.{CheckNumberPromise, RefusalNumberPromise};
 
 use std::fmt;
 
@@ -38,6 +38,16 @@ impl Refusal {
             Refusal::Kind => KIND,
             Refusal::SeedLength => SEED_LENGTH,
         }
+    }
+}
+
+// What a check comes to, as a number: 0 where nothing is refused.
+pub fn number_of(refusal: Option<Refusal>) -> u32
+    ensures { CheckNumberPromise refusal result }
+{
+    match refusal {
+        Some(refusal) => refusal.number(),
+        None => ANSWERED,
     }
 }
 

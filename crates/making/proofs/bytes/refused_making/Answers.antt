@@ -2,4 +2,4 @@
 use Rattle.making.proofs.bytes.refused_making.Goals as goal
 
 pub returns : goal.returns
-returns c = rw c.zeros-generator.ensures
+returns c = rw c.zeros.ensures
