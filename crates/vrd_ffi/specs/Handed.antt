@@ -1,6 +1,6 @@
 -- The exports' answers: how each is put together, what it is where the call is refused, and what is handed out of the library's answer by
 -- value.
-use Rattle.std.specs.Prelude.{ℕ, ◌≤◌, eqb, ℤ, Float, Bool, cond, List, ◌≡◌}
+use Rattle.std.specs.Prelude.{ℕ, ◌≤◌, eqb, ℤ, Float, Bool, cond, List, Result, ◌≡◌}
 use Rattle.std.specs.Float.Ieee.{of_bits}
 use Rattle.std.specs.Float.{binary32, binary64}
 use Rattle.words.specs.declared.outcome.Outcome.{Outcome}
@@ -15,13 +15,16 @@ use Rattle.bounded.specs.Answers as answers
 use Rattle.bounded.specs.declared.answers.Answer.{Answer}
 use Rattle.spans.specs.IntAnswers as spans
 use Rattle.spans.specs.declared.counting.IntOutcome.{IntOutcome}
-use Rattle.spans.specs.declared.ints.IntAnswer.{IntAnswer}
-use Rattle.lists.specs.declared.places.Chosen.{Chosen}
-use Rattle.lists.specs.declared.windows.SliceStart.{SliceStart}
+use Rattle.words.specs.declared.refusal.Refusal.{Refusal}
+use Rattle.words.specs.declared.reply.Given.{Given}
+use Rattle.words.specs.Numbers.{numbered}
+use Rattle.spans.specs.IntAnswers.{IntAnswer}
+use Rattle.lists.specs.Choosing.{Chosen}
+use Rattle.lists.specs.Slicing.{SliceStart}
 use Rattle.floats.specs.Intervals.{refusal_of}
 use Rattle.floats.specs.declared.intervals.Uniform.{Uniform}
 use Rattle.floats.specs.declared.intervals.Uniform.TheVariants as uniform
-use Rattle.float_draws.specs.declared.coins.Flip.{Flip}
+use Rattle.float_draws.specs.Coins.{Flip}
 use Rattle.float_draws.specs.declared.intervals.Spread.{Spread}
 use Rattle.float_draws.specs.declared.units.Drawn32.{Drawn32}
 use Rattle.float_draws.specs.declared.units.Drawn64.{Drawn64}
@@ -91,6 +94,10 @@ choice_of a = reply a.refusal (choice a.place a.value a.used a.refusal) a.next
 -- the value is the start
 abbrev pub start_of : SliceStart → Reply Number
 start_of a = reply a.refusal (number a.start a.used a.refusal) a.next
+
+-- what the library's call tells of a start, as the code hands it out
+abbrev pub start_told : Result (Given ℕ) Refusal → Number
+start_told told = let o = numbered told in number o.value o.used o.refusal
 
 -- of a draw's outcome over the words of the generator
 abbrev pub drawn_by : (Words → Outcome) → Random → Reply Number

@@ -4,8 +4,9 @@ ghost use Rattle.std.specs.Prelude.{◌≡◌};
 ghost use Rattle.vrd_ffi.specs.Handed.{number};
 ghost use Rattle.lent_state.specs.State.{state_after};
 
-use bounded::EngineAnswer;
 use lent_state::settle;
+use random::Engine;
+use words::Outcome;
 
 // A word of 32 or 64 bits, or a position.
 #[repr(C)]
@@ -84,17 +85,16 @@ pub struct Equality {
     pub equal: bool,
 }
 
-// The library's answer as it is handed out, and its engine settled into the state.
-pub(crate) fn number_from(a: EngineAnswer, state: &mut [u64; 6]) -> Number
-    ensures told { result ≡ number a.value a.used a.refusal }
-    ensures state { state.new ≡ state_after a.refusal a.next state.old }
+// What a call tells, as it is handed out, and the engine after it settled into the state.
+pub(crate) fn number_from(o: Outcome, next: Engine, state: &mut [u64; 6]) -> Number
+    ensures told { result ≡ number o.value o.used o.refusal }
+    ensures state { state.new ≡ state_after o.refusal next state.old }
 {
-    let e = a.next;
-    settle(a.refusal, e, state);
+    settle(o.refusal, next, state);
     Number {
-        value: a.value as u64,
-        used: a.used,
-        refusal: a.refusal,
+        value: o.value as u64,
+        used: o.used,
+        refusal: o.refusal,
     }
 }
 

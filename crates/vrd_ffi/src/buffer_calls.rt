@@ -1,10 +1,22 @@
 // Lists and buffers of the caller's that are written: a list shuffled, bytes filled.
+ghost use Rattle.std.specs.Prelude.{◌≡◌};
+ghost use Rattle.shuffle.specs.Replies.{done};
 ghost use Rattle.vrd_ffi.specs.Promises.{VrdShufflePromise, VrdFillBytesPromise};
 
 use crate::answers::{Number, number_from};
 use crate::state::engine_in;
 use lent_state::write;
-use words::refusal;
+use words::{Given, Outcome, Refusal, refusal};
+
+// What a shuffle tells, in numbers: the value of an answered one is 0.
+fn done(told: Result<Given<()>, Refusal>) -> Outcome
+    ensures { result ≡ done told }
+{
+    match told {
+        Ok(given) => words::gives(0, given.used),
+        Err(refusal) => words::refused(refusal.number()),
+    }
+}
 
 // The list in an order drawn at random.
 #[unsafe(no_mangle)]
@@ -25,7 +37,7 @@ pub extern "C" fn vrd_shuffle_in(
         };
     }
     let a = shuffle::shuffle_in(engine_in(state), table, list, budget);
-    number_from(a, state)
+    number_from(done(a.told), a.next, state)
 }
 
 // The buffer filled with the generator's words. The answer is the refusal.

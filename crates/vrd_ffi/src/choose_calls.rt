@@ -1,6 +1,6 @@
 // An entry of a list of the caller's, chosen; and how long a list may be.
 ghost use Rattle.std.specs.Prelude.{length, get_or, ◌≡◌, ◌<◌};
-ghost use Rattle.vrd_ffi.specs.Choosing.{entry_of, Within};
+ghost use Rattle.vrd_ffi.specs.Choosing.{choice_told, entry_of, Within};
 ghost use Rattle.vrd_ffi.specs.Promises.{VrdChoosePromise, VrdListLimitPromise};
 
 use crate::answers::{Choice, Number, choice_apart};
@@ -8,7 +8,8 @@ use crate::drawing::{at_once, by_library, number_of};
 use crate::first_word::{MISS, below_within, quick_first, quick_pcg};
 use crate::state::engine_in;
 use lent_state::settle;
-use words::refusal;
+use lists::Entry;
+use words::{Given, Refusal, refusal};
 
 // The most entries that a list may have.
 #[unsafe(no_mangle)]
@@ -16,6 +17,26 @@ pub extern "C" fn vrd_list_limit() -> u64
     ensures { VrdListLimitPromise result }
 {
     lists::limit::LIST_LIMIT as u64
+}
+
+// What the library's call tells, as it is handed out.
+fn choice_told(told: Result<Given<Entry>, Refusal>) -> Choice
+    ensures { result ≡ choice_told told }
+{
+    match told {
+        Ok(given) => Choice {
+            place: given.value.place,
+            value: given.value.value as u64,
+            used: given.used,
+            refusal: refusal::ANSWERED,
+        },
+        Err(refusal) => Choice {
+            place: 0,
+            value: 0,
+            used: 0,
+            refusal: refusal.number(),
+        },
+    }
 }
 
 // The call by the library: a list that it refuses.
@@ -37,14 +58,9 @@ fn choose_by_library(
         };
     }
     let a = lists::choose_in(engine_in(state), table, list, budget);
-    let e = a.next;
-    settle(a.refusal, e, state);
-    Choice {
-        place: a.place,
-        value: a.value as u64,
-        used: a.used,
-        refusal: a.refusal,
-    }
+    let c = choice_told(a.told);
+    settle(c.refusal, a.next, state);
+    c
 }
 
 // The entry at a place of the list.

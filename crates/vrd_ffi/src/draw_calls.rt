@@ -49,7 +49,7 @@ fn random_range_by_library(
         };
     }
     let a = bounded::random_range_in(engine_in(state), table, min, max, budget);
-    number_from(a, state)
+    number_from(words::numbered(a.told), a.next, state)
 }
 
 // A number from min up to max - 1.

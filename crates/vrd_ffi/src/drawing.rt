@@ -80,9 +80,9 @@ pub(crate) fn by_library(
         return MISS + (refusal::KIND as u64);
     }
     let a = bounded::bounded_in(engine_in(state), table, r, budget);
-    let e = a.next;
-    settle(a.refusal, e, state);
-    pack(a.refusal, a.value, a.used, least)
+    let o = words::numbered(a.told);
+    settle(o.refusal, a.next, state);
+    pack(o.refusal, o.value, o.used, least)
 }
 
 // The draw below r, `least` added.

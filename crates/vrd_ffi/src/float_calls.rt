@@ -84,11 +84,10 @@ pub extern "C" fn vrd_bool_in(state: &mut [u64; 6], table: &mut [u32; 624], chan
     if floats::is_chance(chance) {
         let used = steps_in(state);
         let word = move_u64(state, table);
-        let coin = floats::chance(chance, word);
         return Coin {
             used,
             refusal: refusal::ANSWERED,
-            value: coin.value,
+            value: floats::double_of(word) < chance,
         };
     }
     Coin {
@@ -131,11 +130,10 @@ pub extern "C" fn vrd_uniform_in(
         };
     }
     let i = Interval { low, high };
-    let refused = floats::interval_refusal(i);
-    if refused != refusal::ANSWERED {
+    if let Some(refusal) = floats::interval_refusal(i) {
         return Number64 {
             value: 0.0,
-            refusal: refused,
+            refusal: refusal.number(),
         };
     }
     let word = move_u64(state, table);

@@ -1,6 +1,6 @@
 // Signed numbers between two ends, both included: what is drawn is added to the lower one modulo 2^32 and read back as signed.
 ghost use Rattle.std.specs.Prelude.{◌≡◌};
-ghost use Rattle.vrd_ffi.specs.Counting.{counted_modulo, integer_in};
+ghost use Rattle.vrd_ffi.specs.Counting.{counted_modulo, integer_told};
 ghost use Rattle.vrd_ffi.specs.Promises.{VrdIntPromise, VrdRangePromise};
 
 use crate::answers::{Integer, Number};
@@ -8,17 +8,23 @@ use crate::drawing::{at_once, by_library, number_of};
 use crate::first_word::{MISS, below_within, quick_first, quick_pcg};
 use crate::state::engine_in;
 use lent_state::settle;
-use spans::IntEngineAnswer;
-use words::refusal;
+use words::{Given, Refusal, refusal};
 
-// The library's answer as it is handed out.
-fn integer_of(a: IntEngineAnswer) -> Integer
-    ensures { result ≡ integer_in a }
+// What the library's call tells, as it is handed out.
+fn integer_of(told: Result<Given<i32>, Refusal>) -> Integer
+    ensures { result ≡ integer_told told }
 {
-    Integer {
-        used: a.used,
-        refusal: a.refusal,
-        value: a.value,
+    match told {
+        Ok(given) => Integer {
+            used: given.used,
+            refusal: refusal::ANSWERED,
+            value: given.value,
+        },
+        Err(refusal) => Integer {
+            used: 0,
+            refusal: refusal.number(),
+            value: 0,
+        },
     }
 }
 
@@ -40,9 +46,9 @@ fn int_by_library(
         };
     }
     let a = spans::int_in(engine_in(state), table, min, max, budget);
-    let e = a.next;
-    settle(a.refusal, e, state);
-    integer_of(a)
+    let n = integer_of(a.told);
+    settle(n.refusal, a.next, state);
+    n
 }
 
 // A number drawn, counted from min; a refusal keeps value 0.

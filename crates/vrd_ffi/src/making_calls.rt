@@ -6,6 +6,7 @@ ghost use Rattle.vrd_ffi.specs.Promises.{VrdPcg32WithStreamPromise, VrdPcg64With
 
 use lent_state::{begin, place};
 use random::engine_of;
+use words::refusal;
 use wrapping::Wide;
 
 // Of bytes. The answer is the refusal: 10 for a kind above 3, then 11. A refused making changes nothing.
@@ -20,8 +21,7 @@ pub extern "C" fn vrd_make_in(
         state.new table.new }
 {
     let m = making::make(kind, seed);
-    let g = m.generator;
-    place(m.refusal, g, state, table)
+    place(refusal::number_of(m.refusal), m.generator, state, table)
 }
 
 // Of a seed number, kind 0.

@@ -1,4 +1,6 @@
 // Where a part of a list of the caller's starts.
+ghost use Rattle.std.specs.Prelude.{◌≡◌};
+ghost use Rattle.vrd_ffi.specs.Handed.{start_told};
 ghost use Rattle.vrd_ffi.specs.Promises.{VrdRandSlicePromise};
 
 use crate::answers::{Number, number_apart};
@@ -6,7 +8,25 @@ use crate::drawing::{at_once, by_library, number_of};
 use crate::first_word::{MISS, below_within, quick_first, quick_pcg};
 use crate::state::engine_in;
 use lent_state::settle;
-use words::refusal;
+use words::{Given, Refusal, refusal};
+
+// What the library's call tells, as it is handed out.
+fn start_told(told: Result<Given<usize>, Refusal>) -> Number
+    ensures { result ≡ start_told told }
+{
+    match told {
+        Ok(given) => Number {
+            value: given.value as u64,
+            used: given.used,
+            refusal: refusal::ANSWERED,
+        },
+        Err(refusal) => Number {
+            value: 0,
+            used: 0,
+            refusal: refusal.number(),
+        },
+    }
+}
 
 // The call by the library: a list or a window that it refuses.
 fn rand_slice_by_library(
@@ -27,13 +47,9 @@ fn rand_slice_by_library(
         };
     }
     let a = lists::rand_slice_in(engine_in(state), table, list, window, budget);
-    let e = a.next;
-    settle(a.refusal, e, state);
-    Number {
-        value: a.start as u64,
-        used: a.used,
-        refusal: a.refusal,
-    }
+    let n = start_told(a.told);
+    settle(n.refusal, a.next, state);
+    n
 }
 
 // Where a part of the list starts that is window long.

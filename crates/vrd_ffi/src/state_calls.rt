@@ -73,13 +73,11 @@ pub extern "C" fn vrd_split_in(state: &mut [u64; 6], child: &mut [u64; 6]) -> u3
         return refusal::KIND;
     }
     let d = parts::split_in(engine_in(state));
-    if d.refusal != refusal::ANSWERED {
-        return d.refusal;
+    if let Some(refusal) = d.refusal {
+        return refusal.number();
     }
-    let first = d.parent;
-    let second = d.child;
-    write(first, state);
-    begin(second, child);
+    write(d.parent, state);
+    begin(d.child, child);
     refusal::ANSWERED
 }
 

@@ -24,7 +24,7 @@ fn uint_by_library(
         };
     }
     let a = spans::uint_in(engine_in(state), table, min, max, budget);
-    number_from(a, state)
+    number_from(words::numbered(a.told), a.next, state)
 }
 
 // A number from min up to max.

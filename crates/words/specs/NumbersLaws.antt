@@ -1,6 +1,6 @@
 -- Two answers that say the same in document 01's numbers are the same.
-use Rattle.std.specs.Prelude.{◌≡◌, refl, ℕ, ◌<◌, Result, Ok, Err, cond, eqb}
-use Rattle.std.proofs.Common.{sym, ◌∙◌, ap, arith}
+use Rattle.std.specs.Prelude.{◌≡◌, refl, false, ℕ, ◌<◌, Result, Ok, Err, cond, eqb}
+use Rattle.std.proofs.Common.{sym, ◌∙◌, ap, arith, ne_eqb}
 use Rattle.words.specs.declared.outcome.Outcome.{Outcome}
 use Rattle.words.specs.declared.refusal.Refusal.{Refusal}
 use Rattle.words.specs.declared.refusal.Refusal.TheVariants as no
@@ -52,6 +52,10 @@ number_positive no.Budget = omega arith
 number_positive no.NoSplit = omega arith
 number_positive no.Kind = omega arith
 number_positive no.SeedLength = omega arith
+
+-- as a test has it
+pub not_answered : (r : Refusal) → eqb (number_of r) number.answered ≡ false
+not_answered r = ne_eqb (number_of r) number.answered (λ z. let some = number_positive r in omega arith)
 
 -- What two calls tell is the same where its numbers are.
 pub numbers_apart : (a b : Result (Given ℕ) Refusal) → numbered a ≡ numbered b → a ≡ b

@@ -10,4 +10,5 @@ returns-then-state-gt3 c = unknown_kind _ _ _ _ c.if-state-gt3.true
 pub returns : goal.returns
 returns c =
     let drawn = rw c.engine_in.ensures at c.choose_in-a.ensures.answer in
-    settled _ _ _ _ c.if-state-gt3.false _ _ _ _ _ c.settle.ensures (ap choice_of drawn)
+    let state = rw c.choice_told-c.ensures at c.settle.ensures in
+    rw c.choice_told-c.ensures (settled _ _ _ _ c.if-state-gt3.false _ _ _ _ _ state (ap choice_of drawn))

@@ -12,4 +12,5 @@ pub returns : goal.returns
 returns c =
     let f = c.ranges in
     let drawn = rw (c.engine_in.ensures, arg_read f.min, arg_read f.max) at c.int_in-a.ensures in
-    rw c.integer_of.ensures (settled _ _ _ _ c.if-state-gt3.false _ _ _ _ _ c.settle.ensures (ap integer_of drawn))
+    let state = rw c.integer_of-n.ensures at c.settle.ensures in
+    rw c.integer_of-n.ensures (settled _ _ _ _ c.if-state-gt3.false _ _ _ _ _ state (ap integer_of drawn))

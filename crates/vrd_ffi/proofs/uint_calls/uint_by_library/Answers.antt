@@ -10,5 +10,6 @@ returns-then-state-gt3 c = unknown_kind _ _ _ _ c.if-state-gt3.true
 pub returns : goal.returns
 returns c =
     let drawn = rw c.engine_in.ensures at c.uint_in-a.ensures in
-    let known = c.if-state-gt3.false in
-    rw c.number_from.ensures.told (settled _ _ _ _ known _ _ _ _ _ c.number_from.ensures.state (ap number_of drawn))
+    let state = rw c.numbered.ensures at c.number_from.ensures.state in
+    rw (c.number_from.ensures.told, c.numbered.ensures)
+    (settled _ _ _ _ c.if-state-gt3.false _ _ _ _ _ state (ap number_of drawn))
