@@ -7,9 +7,9 @@ use Rattle.std.proofs.Math.Seq.{drop-nil}
 use Rattle.std.proofs.lemmas.List.{set_at, get_or_at}
 use Rattle.words.specs.Draw.{Words}
 use Rattle.mersenne_twister.specs.Table as twister
-use Rattle.mersenne_twister.specs.declared.Drawn32 as twister_drawn
-use Rattle.mersenne_twister.specs.declared.table.Step.{Step}
 use Rattle.source.specs.declared.Drawn.{Drawn}
+use Rattle.mersenne_twister.specs.declared.table.Step.{Step}
+use Rattle.mersenne_twister.specs.declared.MersenneTwister as twister_type
 use Rattle.pcg.specs.Pcg32 as pcg32
 use Rattle.pcg.specs.Pcg64 as pcg64
 use Rattle.pcg.specs.declared.pcg32.Pcg32 as pcg32_type
@@ -84,7 +84,8 @@ pub put_all : {g h : Random} {l l' : List ℕ} → WordsPut g (length l) l l' h
 put_all {l = l} p = (p.words ∙ rw (drop_all (length l) l (omega arith), append-nil), p.moved)
 
 -- one more of each kind, as the kind's own call draws it
-pub xoshiro_more : {x y : xoshiro_type.Xoshiro256PlusPlus} {n : ℕ} {l l' : List ℕ} {d : Drawn ℕ xoshiro_type.Xoshiro256PlusPlus} → n < length l
+pub xoshiro_more : {x y : xoshiro_type.Xoshiro256PlusPlus} {n : ℕ} {l l' : List ℕ} {d : Drawn ℕ xoshiro_type.Xoshiro256PlusPlus}
+    → n < length l
     → XoshiroPut x n l l' y → d ≡ xoshiro.drawn_high y → XoshiroPut x (n + 1) l (set l' n d.word) d.next
 unfolding word_of step
 xoshiro_more more p e t =
@@ -108,9 +109,9 @@ pcg64_more more p e t =
     (ap (λ (d : Drawn ℕ pcg64_type.Pcg64). gen (Pcg64 d.next) t) e)
 
 -- The same of the twister, whose table is lent: the step leaves the word and the next position.
-pub twister_more : {m m' m'' : List ℕ} {p p' n : ℕ} {l l' : List ℕ} {s : Step} → n < length l
+pub twister_more : {m m' m'' : List ℕ} {p p' n : ℕ} {l l' : List ℕ} {s : Step ℕ} → n < length l
     → TwisterPut m p n l l' m' p' → twister.stepped s m'' ≡ twister.drawn_in m' p' → TwisterPut m p (n + 1) l (set l' n s.word) m'' s.mti
 unfolding word_of step
 twister_more more p e =
-    put_more more p (ap (λ (d : twister_drawn.Drawn32). d.word) e)
-    (ap (λ (d : twister_drawn.Drawn32). gen MersenneTwister d.next) e)
+    put_more more p (ap (λ (d : Drawn ℕ twister_type.MersenneTwister). d.word) e)
+    (ap (λ (d : Drawn ℕ twister_type.MersenneTwister). gen MersenneTwister d.next) e)
