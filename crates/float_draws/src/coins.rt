@@ -1,7 +1,7 @@
 // `bool`: one double is drawn, also at p = 0 and 1, and asked whether it is below p.
 ghost use Rattle.std.specs.Prelude.{◌≡◌};
 ghost use Rattle.random.specs.Generator.{steps64};
-ghost use Rattle.float_draws.specs.Coins.{flip, flip_in};
+ghost use Rattle.float_draws.specs.Coins.{flip};
 ghost use Rattle.float_draws.specs.Promises.{BoolInPromise, BoolPromise};
 
 use random::{Backend, Engine, Random, engine_of, with_table};
@@ -16,7 +16,7 @@ fn steps(backend: Backend) -> u32
 
 // Whether the double of the next 64-bit word is below p; where p is no chance, nothing is drawn.
 pub fn bool_in(e: Engine, mt: &mut [u32; 624], p: f64) -> Reply<bool, Engine>
-    ensures { BoolInPromise e mt.old p (flip_in result) mt.new }
+    ensures { BoolInPromise e mt.old p (flip result) mt.new }
 {
     if floats::is_chance(p) {
         let used = steps(e.backend);

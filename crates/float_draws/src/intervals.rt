@@ -6,31 +6,24 @@ use random::{Engine, Random, engine_of, with_table};
 
 // The number drawn or the refusal's number, and the generator after it; refused, the one that came in.
 #[derive(Clone, Copy)]
-pub struct Spread {
+pub struct Spread<G> {
     pub answer: Uniform,
-    pub next: Random,
-}
-
-// The same over a lent table.
-#[derive(Clone, Copy)]
-pub struct EngineSpread {
-    pub answer: Uniform,
-    pub next: Engine,
+    pub next: G,
 }
 
 // low + (high - low) * double of the next 64-bit word, each operation rounded once; refused, nothing is drawn.
-pub fn uniform_in(e: Engine, mt: &mut [u32; 624], i: Interval) -> EngineSpread
+pub fn uniform_in(e: Engine, mt: &mut [u32; 624], i: Interval) -> Spread<Engine>
     ensures { UniformInPromise e mt.old i result mt.new }
 {
     match floats::interval_refusal(i) {
         None => {
             let d = random::next_u64(e, mt);
-            EngineSpread {
+            Spread {
                 answer: floats::uniform_of(i, d.word),
                 next: d.next,
             }
         }
-        Some(refusal) => EngineSpread {
+        Some(refusal) => Spread {
             answer: Uniform::Refused(refusal.number()),
             next: e,
         },
@@ -38,7 +31,7 @@ pub fn uniform_in(e: Engine, mt: &mut [u32; 624], i: Interval) -> EngineSpread
 }
 
 // The same by value.
-pub fn uniform(g: Random, i: Interval) -> Spread
+pub fn uniform(g: Random, i: Interval) -> Spread<Random>
     ensures answer { UniformPromise g i result }
     ensures never_minus_zero { NeverMinusZero result.answer }
 {

@@ -7,7 +7,5 @@ mod intervals;
 mod units;
 
 pub use coins::{bool, bool_in};
-pub use intervals::{EngineSpread, Spread, uniform, uniform_in};
-pub use units::{
-    Drawn32, Drawn64, EngineDrawn32, EngineDrawn64, double, double_in, float, float_in,
-};
+pub use intervals::{Spread, uniform, uniform_in};
+pub use units::{Fraction, double, double_in, float, float_in};

@@ -1,9 +1,11 @@
 -- `words_of_twister` meets its contract: each turn writes one word more.
+use Rattle.std.specs.Prelude.{ℕ}
 use mathlib.Core.Path.{ap}
 use native.Mathlib.Omega.{arith}
-use Rattle.mersenne_twister.specs.declared.Drawn32.{Drawn32}
+use Rattle.source.specs.declared.Drawn.{Drawn}
 use Rattle.filling.specs.FillLoop.{filling_start, filling_more, filling_end}
 use Rattle.filling.proofs.fill.words_of_twister.Goals as goal
+use Rattle.mersenne_twister.specs.declared.MersenneTwister.{MersenneTwister}
 
 pub loop-i-init : goal.loop-i-init
 loop-i-init c = filling_start _ _ _ _ _
@@ -22,8 +24,8 @@ loop-i-smaller c = omega arith
 
 pub loop-i-preserved : goal.loop-i-preserved
 loop-i-preserved c =
-    let word = ap (λ (d : Drawn32). d.word) c.rand_in-d.ensures in
-    let next = ap (λ (d : Drawn32). d.next) c.rand_in-d.ensures in
+    let word = ap (λ (d : Drawn ℕ MersenneTwister). d.word) c.rand_in-d.ensures in
+    let next = ap (λ (d : Drawn ℕ MersenneTwister). d.next) c.rand_in-d.ensures in
     rw c.put4.ensures (filling_more c.loop-i.invariant _ _ word next (omega arith) (omega arith))
 
 pub shape_of-dest : goal.shape_of-dest
