@@ -1,7 +1,7 @@
 -- The laws of a day laid out, and of the plan by its cases, for code that works them out.
-use Rattle.std.specs.Prelude.{◌≡◌, refl, List, ◌++◌, ℕ, zero, suc, ◌+◌, ◌-◌, ◌≤◌, ◌<◌, min, set, replicate}
-use Rattle.std.proofs.Common.{sym, ◌∙◌, ap, lt_of_not-le, eq-eqb, ne_eqb, length-append, length-set, get_or-append-add, get_or-set_same}
-use Rattle.std.proofs.Common.{get_or-set_other, ext_get_or}
+use Rattle.std.specs.Prelude.{◌≡◌, refl, List, ◌++◌, ℕ, zero, suc, ◌+◌, ◌-◌, ◌≤◌, ◌<◌, min, replicate}
+use Rattle.std.proofs.Common.{sym, ◌∙◌, ap, lt_of_not-le, eq-eqb, ne_eqb, length-append, get_or-append-add}
+use Rattle.std.proofs.Common.{ext_get_or}
 use Rattle.std.proofs.Math.Decide.{dec_le}
 use native.Mathlib.Omega.{arith}
 use Rattle.std.proofs.Math.ListN.{length, get_or, length-replicate, get_or-replicate, get_or-append}
@@ -64,26 +64,8 @@ pub record LaidTo (blanks i : ℕ) (l₀ l : List ℕ) : Type 0 where
   pub within : i ≤ length l₀
   pub laid : (j : ℕ) → j < i → get_or l j 0 ≡ slot_of blanks j
 
--- Before the first slot the list is as it came.
-pub laid_start : {blanks : ℕ} {l : List ℕ} → LaidTo blanks 0 l l
-laid_start = record { same_length = refl; within = omega arith; laid = λ j h. absurd (omega arith) }
-
 module _ {blanks i : ℕ} {l₀ l : List ℕ} (h : LaidTo blanks i l₀ l) where
-  -- One slot more is laid out,
-  pub laid_on : {v : ℕ} → i < length l → v ≡ slot_of blanks i → LaidTo blanks (i + 1) l₀ (set l i v)
-  laid_on {v} more e = record {
-    same_length = length-set l i v ∙ h.same_length;
-    within = let same = h.same_length in omega arith;
-    laid = λ j k. elim (dec_le i j) [
-      | yes m ↦ here j (omega arith)
-      | no m ↦ get_or-set_other l i j v 0 (λ z. omega arith) ∙ h.laid j (lt_of_not-le m)
-    ];
-  }
-    where
-      here : (j : ℕ) → j ≡ i → get_or (set l i v) j 0 ≡ slot_of blanks j
-      here j q = rw q (get_or-set_same l i v 0 more ∙ e)
-
-  -- until every slot is.
+  -- Where every slot is, it is the day laid out.
   pub laid_done : length l ≤ i → l ≡ laid_out blanks (length l₀)
   laid_done end = ext_get_or 0 l day (same ∙ sym (laid_length blanks (length l₀))) each
     where

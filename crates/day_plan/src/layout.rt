@@ -9,10 +9,7 @@ fn slot_of(blanks: usize, i: usize) -> u32
     requires { i < list_limit }
     ensures { result ≡ slot_of blanks i }
 {
-    if i < blanks {
-        return 0;
-    }
-    (i - blanks + 1) as u32
+    (i + 1).saturating_sub(blanks) as u32
 }
 
 // The blanks first, and then every inlet once.
@@ -20,9 +17,7 @@ pub(crate) fn lay_out(day: &mut [u32], blanks: usize)
     requires { length day.old ≤ list_limit }
     ensures { day.new ≡ laid_out blanks (length day.old) }
 {
-    let mut i: usize = 0;
-    while i < day.len() {
-        day[i] = slot_of(blanks, i);
-        i += 1;
+    for (i, slot) in day.iter_mut().enumerate() {
+        *slot = slot_of(blanks, i);
     }
 }

@@ -8,7 +8,7 @@ use Rattle.std.proofs.Math.Decide.{dec_lt}
 use Rattle.std.proofs.Math.Nat.{suc-mul}
 use Rattle.std.proofs.Math.Arith.{digits_div, digits_mod}
 use Rattle.filling.specs.Fill.{byte_of, byte_in}
-use Rattle.filling.specs.Poke.{poke, poke_two}
+use Rattle.filling.specs.Poke.{poke}
 use Rattle.filling.specs.PokeLaws.{length_poke, poke_before, poke_at}
 
 -- the state k words on, and the words as a sequence
@@ -95,7 +95,7 @@ module _ {S : Type 0} {word : S → ℕ} {step : S → S} {W : ℕ} {s : S} {n i
     (h : Filling word step W s n i cur bytes) where
   -- two words more
   pub filling_two : (w w' : ℕ) (next : S) → w ≡ word cur → w' ≡ word (step cur) → next ≡ step (step cur) → 0 < W → W + W ≤ n - i
-      → Filling word step W s n (i + (W + W)) next (poke_two W i w w' bytes)
+      → Filling word step W s n (i + (W + W)) next (poke W (i + W) w' (poke W i w bytes))
   filling_two w w' next e e' f p q =
       let z : i + (W + W) ≡ i + W + W = omega arith in
       rw z (filling_more (filling_more h w (step cur) e refl p (omega arith)) w' next e' f p (omega arith))

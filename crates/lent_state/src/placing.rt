@@ -13,11 +13,9 @@ pub fn place(refused: u32, g: Random, state: &mut [u64; 6], table: &mut [u32; 62
         return refused;
     }
     begin(engine_of(g), state);
-    let backend = g.backend;
-    if random::on_table(backend) {
+    if random::on_table(g.backend) {
         let mt = g.twister.mt;
         *table = mt;
-        return refused;
     }
     refused
 }

@@ -53,25 +53,21 @@ pub fn pcg64_in(state: &[u64; 6]) -> Pcg64
 }
 
 // The engine of a state. Of a kind above 3 it has the kind and the words of a refused making.
+#[tactic(auto, unfolding(crate::specs::State::backend_in))]
 fn engine_in(state: &[u64; 6]) -> Engine
     ensures { result ≡ engine_from state.now }
 {
-    let kind = state[0];
     let mti = position(state);
-    if kind == 0 {
-        return engine_with(Backend::Xoshiro256PlusPlus(xoshiro_in(state)), mti);
+    match state[0] {
+        0 => engine_with(Backend::Xoshiro256PlusPlus(xoshiro_in(state)), mti),
+        1 => engine_with(Backend::MersenneTwister, mti),
+        2 => engine_with(Backend::Pcg32(pcg32_in(state)), mti),
+        3 => engine_with(Backend::Pcg64(pcg64_in(state)), mti),
+        _ => {
+            let zeros = Xoshiro256PlusPlus::from_parts(0, 0, 0, 0);
+            engine_with(Backend::Xoshiro256PlusPlus(zeros), mti)
+        }
     }
-    if kind == 1 {
-        return engine_with(Backend::MersenneTwister, mti);
-    }
-    if kind == 2 {
-        return engine_with(Backend::Pcg32(pcg32_in(state)), mti);
-    }
-    if kind == 3 {
-        return engine_with(Backend::Pcg64(pcg64_in(state)), mti);
-    }
-    let zeros = Xoshiro256PlusPlus::from_parts(0, 0, 0, 0);
-    engine_with(Backend::Xoshiro256PlusPlus(zeros), mti)
 }
 
 // The refusal of a kind above 3.

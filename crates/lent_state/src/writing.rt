@@ -21,12 +21,12 @@ pub fn put_position(mti: u32, state: &mut [u64; 6])
 }
 
 // An engine of any kind.
+#[tactic(auto, unfolding(crate::specs::State::state_with))]
 pub fn write(e: Engine, state: &mut [u64; 6])
     ensures { WritePromise e state.old state.new }
 {
     let mti = e.mti as u64;
-    let backend = e.backend;
-    match backend {
+    match e.backend {
         Backend::Xoshiro256PlusPlus(x) => {
             *state = [0, state[1], x.s0, x.s1, x.s2, x.s3];
         }
