@@ -36,8 +36,9 @@ fn draws_row(e: Engine, mt: &mut [u32; 624], r: u32, budget: u32, n: u64) -> Eng
     let mut i: u64 = 0;
     while i < n {
         let a = bounded::bounded_in(next, mt, r, budget);
-        sum = std::num::wrapping_add_u64(sum, a.value as u64);
-        used = std::num::wrapping_add_u64(used, a.used as u64);
+        let o = words::numbered(a.told);
+        sum = std::num::wrapping_add_u64(sum, o.value as u64);
+        used = std::num::wrapping_add_u64(used, o.used as u64);
         next = a.next;
         i += 1;
     }

@@ -79,8 +79,9 @@ fn draws_by_value(g: Random, r: u32, budget: u32, n: u64) -> RandomSums
     let mut i: u64 = 0;
     while i < n {
         let a = bounded::bounded(next, r, budget);
-        sum = std::num::wrapping_add_u64(sum, a.value as u64);
-        used = std::num::wrapping_add_u64(used, a.used as u64);
+        let o = words::numbered(a.told);
+        sum = std::num::wrapping_add_u64(sum, o.value as u64);
+        used = std::num::wrapping_add_u64(used, o.used as u64);
         next = a.next;
         i += 1;
     }

@@ -16,7 +16,7 @@ pub loop-i-preserved : goal.loop-i-preserved
 loop-i-preserved c =
     let loop = c.loop-i in
     let more = row_goes_on _ _ loop.i _ loop.invariant.1 c.bounded-a.ensures in
-    (omega arith, rw (c.wrapping_add_u64-sum.ensures.value, c.wrapping_add_u64-used.ensures.value) more)
+    (omega arith, rw (c.wrapping_add_u64-sum.ensures.value, c.wrapping_add_u64-used.ensures.value, c.numbered-o.ensures) more)
 
 pub returns : goal.returns
 returns c =
