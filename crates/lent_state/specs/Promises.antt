@@ -5,7 +5,7 @@ use Rattle.pcg.specs.declared.pcg64.Pcg64.{Pcg64}
 use Rattle.xoshiro.specs.declared.Xoshiro256PlusPlus.{Xoshiro256PlusPlus}
 use Rattle.random.specs.declared.backend.Random.{Random}
 use Rattle.random.specs.declared.engine.Engine.{Engine}
-use Rattle.lent_state.specs.declared.reading.Held.{Held}
+use Rattle.lent_state.specs.State.{Held}
 use Rattle.lent_state.specs.Answers.{told}
 use Rattle.lent_state.specs.Placing.{placed}
 use Rattle.lent_state.specs.State.{position_in, xoshiro_in, pcg32_in, pcg64_in, held_in}

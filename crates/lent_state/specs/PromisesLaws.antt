@@ -6,7 +6,7 @@ use Rattle.pcg.specs.declared.pcg64.Pcg64.{Pcg64}
 use Rattle.xoshiro.specs.declared.Xoshiro256PlusPlus.{Xoshiro256PlusPlus}
 use Rattle.random.specs.declared.backend.Random.{Random}
 use Rattle.random.specs.declared.engine.Engine.{Engine}
-use Rattle.lent_state.specs.declared.reading.Held.{Held}
+use Rattle.lent_state.specs.State.{Held}
 use Rattle.lent_state.specs.Promises.{PositionPromise, XoshiroInPromise, Pcg32InPromise, Pcg64InPromise, HeldInPromise}
 use Rattle.lent_state.specs.Promises.{PutSmallPromise, PutPositionPromise, WritePromise, LentSettlePromise, LentBeginPromise}
 use Rattle.lent_state.specs.Promises.{LentPlacePromise}

@@ -13,7 +13,8 @@ use Rattle.random.specs.declared.backend.Backend.{Backend}
 use Rattle.random.specs.declared.backend.Backend.TheVariants.{Xoshiro256PlusPlus, MersenneTwister, Pcg32, Pcg64}
 use Rattle.random.specs.declared.backend.Random.{Random}
 use Rattle.random.specs.declared.engine.Engine.{Engine}
-use Rattle.lent_state.specs.declared.reading.Held.{Held}
+use Rattle.lent_state.specs.declared.reading.Held as code
+use Rattle.words.specs.Numbers.{refusal_in}
 
 -- ---- what a state says
 
@@ -52,6 +53,15 @@ engine_from s = engine_with (backend_in s) (position_in s)
 -- a kind above 3 is refused with 10
 unfoldable pub kind_refusal : ℕ → ℕ
 kind_refusal kind = cond (leb kind 3) refusal.answered refusal.kind
+
+-- What a state holds, in document 01's numbers: the refusal's, 0 where there is none, and the engine.
+pub record Held : Type 0 where
+  pub refusal : ℕ
+  pub engine : Engine
+
+-- as the code tells it
+abbrev pub held_numbers : code.Held → Held
+held_numbers h = record { refusal = refusal_in h.refusal; engine = h.engine }
 
 -- the engine, and whether its kind is known
 abbrev pub held_in : List ℕ → Held

@@ -1,18 +1,19 @@
 // A state read: the small words of one kind, and the whole engine.
 ghost use Rattle.std.specs.Prelude.{◌≡◌};
 ghost use Rattle.lent_state.specs.Promises.{PositionPromise, XoshiroInPromise, Pcg32InPromise, Pcg64InPromise, HeldInPromise};
-ghost use Rattle.lent_state.specs.State.{engine_from, kind_refusal};
+ghost use Rattle.lent_state.specs.State.{engine_from, held_numbers, kind_refusal};
+ghost use Rattle.words.specs.Numbers.{refusal_in};
 
 use pcg::{Pcg32, Pcg64};
 use random::{Backend, Engine, engine_with};
-use words::refusal;
+use words::Refusal;
 use wrapping::Wide;
 use xoshiro::Xoshiro256PlusPlus;
 
-// What a state holds: the refusal's number, 0 for none, and the engine. Refused, it is kind 0 with four zero words.
+// What a state holds: the engine, and why its kind is refused. Refused, it is kind 0 with four zero words.
 #[derive(Clone, Copy)]
 pub struct Held {
-    pub refusal: u32,
+    pub refusal: Option<Refusal>,
     pub engine: Engine,
 }
 
@@ -72,18 +73,18 @@ fn engine_in(state: &[u64; 6]) -> Engine
 
 // The refusal of a kind above 3.
 #[tactic(auto, unfolding(crate::specs::State::kind_refusal))]
-fn kind_refusal(kind: u64) -> u32
-    ensures { result ≡ kind_refusal kind }
+fn kind_refusal(kind: u64) -> Option<Refusal>
+    ensures { refusal_in result ≡ kind_refusal kind }
 {
     if kind > 3 {
-        return refusal::KIND;
+        return Some(Refusal::Kind);
     }
-    refusal::ANSWERED
+    None
 }
 
 // The engine of a state. A kind above 3 is refused with 10.
 pub fn held_in(state: &[u64; 6]) -> Held
-    ensures { HeldInPromise state.now result }
+    ensures { HeldInPromise state.now (held_numbers result) }
 {
     let engine = engine_in(state);
     Held {
