@@ -1,106 +1,83 @@
 // The examples on floats: numbers below 1, a chance, and an interval.
 use crate::examples::{Chance, Unit};
-use crate::report::{Tally, Told};
+use crate::report::Tally;
 use crate::{examples, given, report};
 use floats::{Interval, Uniform};
 use std::io;
 
-// The words are given by a twister's table, for a 64-bit word the high half first.
-fn unit_pattern(double: bool, mt: &mut [u32; 624]) -> u64 {
-    if double {
-        let d = float_draws::double_in(given::twister(), mt);
-        return float_bits::pattern_of(d.value);
+// The answer's pattern, of the word of a twister's table; for a word of 64 bits the high half comes first.
+fn pattern_of(x: Unit) -> Option<u64> {
+    match x {
+        Unit::Float { word, .. } => {
+            let mut mt = given::table(&[word])?;
+            let value = float_draws::float_in(given::twister(), &mut mt).value;
+            Some(float_bits::pattern_of(std::num::f32_to_f64_with_nan(value)))
+        }
+        Unit::Double { word, .. } => {
+            let mut mt = given::table(&given::halves(word))?;
+            let value = float_draws::double_in(given::twister(), &mut mt).value;
+            Some(float_bits::pattern_of(value))
+        }
     }
-    let f = float_draws::float_in(given::twister(), mt);
-    float_bits::pattern_of(std::num::f32_to_f64_with_nan(f.value))
 }
 
-fn high(word: u64) -> u32 {
-    (word / 0x1_0000_0000) as u32
-}
-
-fn low(word: u64) -> u32 {
-    (word % 0x1_0000_0000) as u32
-}
-
-fn unit(rt: &impl Print, t: Tally, x: Unit) -> io::Result<Tally> {
-    let mut mt = [0u32; 624];
-    if x.double {
-        telling::text(rt, b"double of ")?;
-        let given = given::set_words(&mut mt, high(x.word), low(x.word), 0);
-        return tell_unit(rt, t, x, given, unit_pattern(true, &mut mt));
-    }
-    telling::text(rt, b"float of ")?;
-    let given = given::set_words(&mut mt, low(x.word), 0, 0);
-    tell_unit(rt, t, x, given, unit_pattern(false, &mut mt))
-}
-
-fn tell_unit(rt: &impl Print, t: Tally, x: Unit, given: bool, pattern: u64) -> io::Result<Tally> {
-    telling::pattern(rt, x.word, 3)?;
-    telling::text(rt, b": the f64 ")?;
-    telling::pattern(rt, pattern, 16)?;
-    report::judged_with(rt, t, given, pattern == x.says)
-}
-
-fn one_if(b: bool) -> u32 {
-    if b { 1 } else { 0 }
-}
-
-fn chance(rt: &impl Print, t: Tally, x: Chance) -> io::Result<Tally> {
-    let mut mt = [0u32; 624];
-    let a = float_draws::bool_in(given::xoshiro(x.word), &mut mt, float_bits::number_of(x.p));
-    let told = Told {
-        refusal: a.refusal,
-        value: one_if(a.value),
-        used: a.used,
+fn unit(rt: &impl Print, x: Unit) -> io::Result<Tally> {
+    let Some(pattern) = pattern_of(x) else {
+        return report::judged(rt, false);
     };
-    telling::text(rt, b"bool, p = the f64 ")?;
-    telling::pattern(rt, x.p, 16)?;
-    telling::text(rt, b", word ")?;
-    telling::pattern(rt, x.word, 16)?;
-    report::draw(rt, told)?;
-    let says = x.says;
-    report::judged(rt, t, report::same(told, says))
+    let says = match x {
+        Unit::Float { word, says } => {
+            print!(rt; "float of 0x{word:03x}")?;
+            says
+        }
+        Unit::Double { word, says } => {
+            print!(rt; "double of 0x{word:03x}")?;
+            says
+        }
+    };
+    print!(rt; ": the f64 0x{pattern:016x}")?;
+    report::judged(rt, pattern == says)
 }
 
-fn uniform(rt: &impl Print, t: Tally) -> io::Result<Tally> {
-    let mut mt = [0u32; 624];
+fn chance(rt: &impl Print, x: Chance) -> io::Result<Tally> {
+    let p = x.p;
+    let word = x.word;
+    let mut mt = [0; 624];
+    let flip = float_draws::bool_in(given::xoshiro(word), &mut mt, float_bits::number_of(p));
+    let said = report::of_flip(flip);
+    print!(rt; "bool, p = the f64 0x{p:016x}, word 0x{word:016x}")?;
+    report::tell(rt, said)?;
+    report::judged(rt, said == x.says)
+}
+
+fn uniform(rt: &impl Print) -> io::Result<Tally> {
+    let mut mt = [0; 624];
     let interval = Interval {
         low: float_bits::number_of(examples::ONE),
         high: float_bits::number_of(examples::ABOVE_ONE),
     };
-    telling::text(rt, b"uniform from 1 to 1 + 2^-52, word all ones: ")?;
-    let d = float_draws::uniform_in(given::xoshiro(0xFFFF_FFFF_FFFF_FFFF), &mut mt, interval);
-    let answer = d.answer;
-    match answer {
+    print!(rt; "uniform from 1 to 1 + 2^-52, word all ones: ")?;
+    match float_draws::uniform_in(given::xoshiro(u64::MAX), &mut mt, interval).answer {
         Uniform::Number(x) => {
             let pattern = float_bits::pattern_of(x);
-            telling::text(rt, b"the f64 ")?;
-            telling::pattern(rt, pattern, 16)?;
-            report::judged(rt, t, pattern == examples::ABOVE_ONE)
+            print!(rt; "the f64 0x{pattern:016x}")?;
+            report::judged(rt, pattern == examples::ABOVE_ONE)
         }
         Uniform::Refused(number) => {
-            telling::text(rt, b"refusal ")?;
-            telling::small(rt, number)?;
-            report::judged(rt, t, false)
+            print!(rt; "refusal {number}")?;
+            report::judged(rt, false)
         }
     }
 }
 
-pub(crate) fn run(rt: &impl Print, t: Tally) -> io::Result<Tally> {
-    let mut tally = t;
-    let mut i: usize = 0;
-    while i < examples::UNIT_COUNT {
-        let x = examples::UNIT[i];
-        tally = unit(rt, tally, x)?;
-        i += 1;
+pub(crate) fn run(rt: &impl Print) -> io::Result<Tally> {
+    let mut tally = Tally::default();
+    for x in examples::UNIT {
+        tally += unit(rt, x)?;
     }
-    tally = uniform(rt, tally)?;
-    let mut j: usize = 0;
-    while j < examples::CHANCE_COUNT {
-        let x = examples::CHANCE[j];
-        tally = chance(rt, tally, x)?;
-        j += 1;
+    tally += uniform(rt)?;
+    for x in examples::CHANCE {
+        tally += chance(rt, x)?;
     }
     Ok(tally)
 }

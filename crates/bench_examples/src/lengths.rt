@@ -1,5 +1,5 @@
 // The longest list, and one entry more, on every call that takes a list.
-use crate::report::{Tally, Told};
+use crate::report::{Said, Tally};
 use crate::{examples, given, report};
 use random::Backend;
 use std::io;
@@ -7,98 +7,71 @@ use xoshiro::Xoshiro256PlusPlus;
 
 // Every entry is its own place.
 fn number_places(list: &mut [u32]) {
-    let mut i: usize = 0;
-    let mut place: u32 = 0;
-    while i < list.len() {
-        list[i] = place;
-        place = std::num::wrapping_add_u32(place, 1);
-        i += 1;
+    for (entry, place) in list.iter_mut().zip(0u32..) {
+        *entry = place;
     }
 }
 
 // Whether every entry is its own place.
 fn are_places(list: &[u32]) -> bool {
-    let mut i: usize = 0;
-    let mut place: u32 = 0;
-    while i < list.len() {
-        if list[i] != place {
-            return false;
-        }
-        place = std::num::wrapping_add_u32(place, 1);
-        i += 1;
-    }
-    true
+    list.iter()
+        .zip(0u32..)
+        .all(|(entry, place)| *entry == place)
 }
 
-fn tell_length(rt: &impl Print, call: &[u8], entries: usize) -> io::Result<()> {
-    telling::text(rt, call)?;
-    telling::text(rt, b" of ")?;
-    telling::number(rt, entries as u64)?;
-    telling::text(rt, b" entries")
+fn judged(
+    rt: &impl Print,
+    call: &str,
+    entries: usize,
+    said: Said,
+    right: bool,
+) -> io::Result<Tally> {
+    print!(rt; "{call} of {entries} entries")?;
+    report::tell(rt, said)?;
+    report::judged(rt, right)
 }
 
-fn choose(rt: &impl Print, t: Tally, list: &[u32], says: Told) -> io::Result<Tally> {
-    let mut mt = [0u32; 624];
-    let given = given::set_words(&mut mt, 0xFFFF_FFFF, 0, 0);
-    let a = lists::choose_in(given::twister(), &mut mt, list, 1);
-    let told = Told {
-        refusal: a.refusal,
-        value: a.value,
-        used: a.used,
+fn choose(rt: &impl Print, list: &[u32], says: Said) -> io::Result<Tally> {
+    let Some(mut mt) = given::table(&[u32::MAX]) else {
+        return report::judged(rt, false);
     };
-    tell_length(rt, b"choose", list.len())?;
-    report::draw(rt, told)?;
-    report::judged_with(rt, t, given, report::same(told, says))
+    let said = report::of_choice(lists::choose_in(given::twister(), &mut mt, list, 1));
+    judged(rt, "choose", list.len(), said, said == says)
 }
 
 // The window is one entry long: its start is the place that `choose` draws.
-fn rand_slice(rt: &impl Print, t: Tally, list: &[u32], says: Told) -> io::Result<Tally> {
-    let mut mt = [0u32; 624];
-    let given = given::set_words(&mut mt, 0xFFFF_FFFF, 0, 0);
-    let a = lists::rand_slice_in(given::twister(), &mut mt, list, 1, 1);
-    let told = Told {
-        refusal: a.refusal,
-        value: (a.start % 0x1_0000_0000) as u32,
-        used: a.used,
+fn rand_slice(rt: &impl Print, list: &[u32], says: Said) -> io::Result<Tally> {
+    let Some(mut mt) = given::table(&[u32::MAX]) else {
+        return report::judged(rt, false);
     };
-    tell_length(rt, b"rand_slice", list.len())?;
-    report::draw(rt, told)?;
-    report::judged_with(rt, t, given, report::same(told, says))
+    let said = report::of_start(lists::rand_slice_in(given::twister(), &mut mt, list, 1, 1));
+    judged(rt, "rand_slice", list.len(), said, said == says)
 }
 
-// Answered, the order is another one; refused, no word is used and the list is as it came.
-fn is_right(told: Told, kept: bool, says: Told) -> bool {
-    if told.refusal != says.refusal {
-        return false;
-    }
-    if told.refusal == words::refusal::ANSWERED {
-        return if kept { false } else { told.used > 0 };
-    }
-    if kept { told.used == 0 } else { false }
-}
-
-// Seed 1 of kind 0 has words enough.
-fn shuffle(rt: &impl Print, t: Tally, list: &mut [u32], says: Told) -> io::Result<Tally> {
-    let mut mt = [0u32; 624];
+// Answered, the order is another one; refused, the list is as it came. Seed 1 of kind 0 has words enough.
+fn shuffle(rt: &impl Print, list: &mut [u32], says: Said) -> io::Result<Tally> {
+    let mut mt = [0; 624];
     let x = Xoshiro256PlusPlus::from_u64_seed(1);
     let e = random::engine_with(Backend::Xoshiro256PlusPlus(x), 0);
-    let a = shuffle::shuffle_in(e, &mut mt, list, 0xFFFF_FFFF);
-    let told = report::of_answer(a);
-    tell_length(rt, b"shuffle", list.len())?;
-    report::draw(rt, told)?;
-    report::judged(rt, t, is_right(told, are_places(list), says))
+    let said = report::of_shuffle(shuffle::shuffle_in(e, &mut mt, list, u32::MAX));
+    let right = match (said, says) {
+        (Ok(drawn), Ok(_)) => !are_places(list) && drawn.used > 0,
+        (Err(refused), Err(ordered)) => are_places(list) && refused == ordered,
+        _ => false,
+    };
+    judged(rt, "shuffle", list.len(), said, right)
 }
 
-fn every_call(rt: &impl Print, t: Tally, list: &mut [u32], says: Told) -> io::Result<Tally> {
+fn every_call(rt: &impl Print, list: &mut [u32], says: Said) -> io::Result<Tally> {
     number_places(list);
-    let chosen = choose(rt, t, list, says)?;
-    let sliced = rand_slice(rt, chosen, list, says)?;
-    shuffle(rt, sliced, list, says)
+    let mut tally = choose(rt, list, says)?;
+    tally += rand_slice(rt, list, says)?;
+    tally += shuffle(rt, list, says)?;
+    Ok(tally)
 }
 
-pub(crate) fn run(rt: &impl Print, t: Tally) -> io::Result<Tally> {
-    let mut longest = [0u32; 65536];
-    let answered = every_call(rt, t, &mut longest, examples::LONGEST)?;
-    let mut longer = [0u32; 65537];
-    every_call(rt, answered, &mut longer, examples::LONGER)
+pub(crate) fn run(rt: &impl Print) -> io::Result<Tally> {
+    let mut tally = every_call(rt, &mut [0; 65536], examples::LONGEST)?;
+    tally += every_call(rt, &mut [0; 65537], examples::LONGER)?;
+    Ok(tally)
 }

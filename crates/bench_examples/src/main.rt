@@ -12,16 +12,14 @@ mod report;
 mod shares;
 mod shuffles;
 
-use report::Tally;
 use std::io;
 
 fn main(rt: HostRuntime) -> io::Result<()> {
-    let start = Tally { right: 0, of: 0 };
-    let drawn = draws::run(&rt, start)?;
-    let counted = shares::run(&rt, drawn)?;
-    let shuffled = shuffles::run(&rt, counted)?;
-    let floated = float_rows::run(&rt, shuffled)?;
-    let filled = bytes::run(&rt, floated)?;
-    let all = lengths::run(&rt, filled)?;
-    report::total(&rt, all)
+    let mut all = draws::run(&rt)?;
+    all += shares::run(&rt)?;
+    all += shuffles::run(&rt)?;
+    all += float_rows::run(&rt)?;
+    all += bytes::run(&rt)?;
+    all += lengths::run(&rt)?;
+    println!(rt; "{all}")
 }

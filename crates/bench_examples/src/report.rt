@@ -1,104 +1,105 @@
-// How an example is told: what it is, the answer, and whether that is what the document says.
-use bounded::EngineAnswer;
-use std::io;
-use telling::{number, small, text};
+// How an example is told: what it is, the answer, and whether that is what the document says. Each kind of answer is read here alone.
+use lists::Entry;
+use random::Engine;
+use std::ops::AddAssign;
+use std::{fmt, io};
+use words::{Given, Refusal, Reply};
 
 // Examples that are as in the document, of so many.
-#[derive(Clone, Copy)]
+#[derive(Clone, Copy, Default)]
 pub(crate) struct Tally {
-    pub(crate) right: u64,
-    pub(crate) of: u64,
+    right: u64,
+    of: u64,
 }
 
-// What a draw tells: the refusal's number, the value and the words used.
-#[derive(Clone, Copy)]
-pub(crate) struct Told {
-    pub(crate) refusal: u32,
-    pub(crate) value: u32,
+impl AddAssign for Tally {
+    fn add_assign(&mut self, other: Tally) {
+        self.right = self.right.wrapping_add(other.right);
+        self.of = self.of.wrapping_add(other.of);
+    }
+}
+
+impl fmt::Display for Tally {
+    fn fmt<W: fmt::Write>(&self, f: &mut fmt::Formatter<W>) -> fmt::Result {
+        let right = self.right;
+        let of = self.of;
+        write!(f, "{right} of {of} as in the document")
+    }
+}
+
+// What is drawn, and the words used.
+#[derive(Clone, Copy, PartialEq, Eq, Default)]
+pub(crate) struct Drawn {
+    pub(crate) value: i64,
     pub(crate) used: u32,
 }
 
-pub(crate) fn of_answer(a: EngineAnswer) -> Told {
-    Told {
-        refusal: a.refusal,
-        value: a.value,
-        used: a.used,
+// A refusal, by its number.
+#[derive(Clone, Copy, PartialEq, Eq)]
+pub(crate) struct Refused(pub(crate) u32);
+
+pub(crate) type Said = Result<Drawn, Refused>;
+
+impl From<Refusal> for Refused {
+    fn from(refusal: Refusal) -> Refused {
+        Refused(refusal.number())
     }
 }
 
-// The signed number that stands so far above the least one.
-pub(crate) fn signed(rt: &impl Print, above_least: u32) -> io::Result<()> {
-    if above_least < 0x8000_0000 {
-        text(rt, b"-")?;
-        small(rt, 0x8000_0000 - above_least)
-    } else {
-        small(rt, above_least - 0x8000_0000)
+// What a call told, its value read as `read` reads it.
+fn said<T, F: FnOnce(T) -> i64>(told: Result<Given<T>, Refusal>, read: F) -> Said
+    requires { F.IsAlwaysCallable read }
+{
+    match told {
+        Ok(given) => Ok(Drawn {
+            value: read(given.value),
+            used: given.used,
+        }),
+        Err(refusal) => Err(Refused::from(refusal)),
     }
 }
 
-// The end of an example's line, and one more of its kind.
-pub(crate) fn judged(rt: &impl Print, t: Tally, right: bool) -> io::Result<Tally> {
-    let of = std::num::wrapping_add_u64(t.of, 1);
-    if right {
-        text(rt, b": as in the document\n")?;
-        return Ok(Tally {
-            right: std::num::wrapping_add_u64(t.right, 1),
-            of,
-        });
-    }
-    text(rt, b": NOT as in the document\n")?;
-    Ok(Tally { right: t.right, of })
+pub(crate) fn of_answer(a: Reply<u32, Engine>) -> Said {
+    said(a.told, i64::from)
 }
 
-// Right where both are.
-pub(crate) fn judged_with(
-    rt: &impl Print,
-    t: Tally,
-    first: bool,
-    second: bool,
-) -> io::Result<Tally> {
-    if first {
-        return judged(rt, t, second);
-    }
-    judged(rt, t, false)
+pub(crate) fn of_int(a: Reply<i32, Engine>) -> Said {
+    said(a.told, i64::from)
 }
 
-// The refusal and the words used.
-fn outcome(rt: &impl Print, a: Told) -> io::Result<()> {
-    text(rt, b", refusal ")?;
-    small(rt, a.refusal)?;
-    text(rt, b", words used ")?;
-    small(rt, a.used)
+pub(crate) fn of_choice(a: Reply<Entry, Engine>) -> Said {
+    said(a.told, |entry| i64::from(entry.value))
 }
 
-// Whether two draws tell the same.
-pub(crate) fn same(a: Told, b: Told) -> bool {
-    if a.refusal != b.refusal {
-        return false;
-    }
-    if a.value != b.value {
-        return false;
-    }
-    a.used == b.used
+pub(crate) fn of_start(a: Reply<usize, Engine>) -> Said {
+    said(a.told, |start| i64::from((start % 0x1_0000_0000) as u32))
 }
 
-// A draw's answer, after what was drawn.
-pub(crate) fn draw(rt: &impl Print, a: Told) -> io::Result<()> {
-    text(rt, b": value ")?;
-    small(rt, a.value)?;
-    outcome(rt, a)
+pub(crate) fn of_flip(a: Reply<bool, Engine>) -> Said {
+    said(a.told, i64::from)
 }
 
-// The same of a signed value, told as its distance from the least one.
-pub(crate) fn signed_draw(rt: &impl Print, a: Told) -> io::Result<()> {
-    text(rt, b": value ")?;
-    signed(rt, a.value)?;
-    outcome(rt, a)
+pub(crate) fn of_shuffle(a: Reply<(), Engine>) -> Said {
+    said(a.told, |_| 0)
 }
 
-pub(crate) fn total(rt: &impl Print, t: Tally) -> io::Result<()> {
-    number(rt, t.right)?;
-    text(rt, b" of ")?;
-    number(rt, t.of)?;
-    text(rt, b" as in the document\n")
+// What a call said, after what it is.
+pub(crate) fn tell(rt: &impl Print, said: Said) -> io::Result<()> {
+    let (drawn, refusal) = match said {
+        Ok(drawn) => (drawn, words::refusal::ANSWERED),
+        Err(Refused(number)) => (Drawn::default(), number),
+    };
+    let value = drawn.value;
+    let used = drawn.used;
+    print!(rt; ": value {value}, refusal {refusal}, words used {used}")
+}
+
+// The end of an example's line.
+pub(crate) fn judged(rt: &impl Print, right: bool) -> io::Result<Tally> {
+    let not = if right { "" } else { "NOT " };
+    println!(rt; ": {not}as in the document")?;
+    Ok(Tally {
+        right: u64::from(right),
+        of: 1,
+    })
 }

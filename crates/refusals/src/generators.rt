@@ -5,118 +5,101 @@ use random::{Backend, Random};
 use wrapping::Wide;
 use xoshiro::Xoshiro256PlusPlus;
 
-// Four kinds in four states: the kind changes first.
-pub(crate) const KINDS: u32 = 4;
+#[derive(Clone, Copy)]
+pub(crate) enum Kind {
+    Xoshiro256PlusPlus,
+    MersenneTwister,
+    Pcg32,
+    Pcg64,
+}
 
-pub(crate) const GENERATORS: u32 = 16;
+pub(crate) const KINDS: [Kind; 4] = [
+    Kind::Xoshiro256PlusPlus,
+    Kind::MersenneTwister,
+    Kind::Pcg32,
+    Kind::Pcg64,
+];
 
-// The state of zeros, whose words are 0 for ever.
-pub(crate) const ZEROS: u32 = 2;
+// No state in particular; one whose first word is 0 and rejected by most bounds, with others after it; zeros, whose words are 0 for ever;
+// and the largest numbers.
+#[derive(Clone, Copy, PartialEq, Eq)]
+pub(crate) enum State {
+    Any,
+    FirstWordZero,
+    Zeros,
+    Largest,
+}
 
-const LARGEST: u64 = 0xFFFF_FFFF_FFFF_FFFF;
+pub(crate) const STATES: [State; 4] = [
+    State::Any,
+    State::FirstWordZero,
+    State::Zeros,
+    State::Largest,
+];
 
 // What stands in the table of the kinds that have no use for it.
 const SENTINEL: u32 = 0xDEAD_BEEF;
 
-// Four small words, and the position beside the kinds that have no use for it.
-#[derive(Clone, Copy)]
-struct State {
-    w0: u64,
-    w1: u64,
-    w2: u64,
-    w3: u64,
-    mti: u32,
-}
+impl State {
+    // Four small words.
+    fn words(self) -> [u64; 4] {
+        match self {
+            State::Any => [0x9E37_79B9_7F4A_7C15, 0xBF58_476D_1CE4_E5B9, 3, 5],
+            State::FirstWordZero => [0, 1, 0, 1],
+            State::Zeros => [0; 4],
+            State::Largest => [u64::MAX; 4],
+        }
+    }
 
-// No state in particular; one whose first word is 0 and rejected by most bounds, with others after it; zeros; and the largest numbers.
-fn state_at(number: u32) -> State {
-    match number {
-        0 => State {
-            w0: 0x9E37_79B9_7F4A_7C15,
-            w1: 0xBF58_476D_1CE4_E5B9,
-            w2: 3,
-            w3: 5,
-            mti: 77,
-        },
-        1 => State {
-            w0: 0,
-            w1: 1,
-            w2: 0,
-            w3: 1,
-            mti: 624,
-        },
-        ZEROS => State {
-            w0: 0,
-            w1: 0,
-            w2: 0,
-            w3: 0,
-            mti: 0,
-        },
-        _ => State {
-            w0: LARGEST,
-            w1: LARGEST,
-            w2: LARGEST,
-            w3: LARGEST,
-            mti: 0xFFFF_FFFF,
-        },
+    // The position beside the kinds that have no use for it.
+    fn position(self) -> u32 {
+        match self {
+            State::Any => 77,
+            State::FirstWordZero => 624,
+            State::Zeros => 0,
+            State::Largest => u32::MAX,
+        }
+    }
+
+    fn twister(self) -> MersenneTwister {
+        let seeded = MersenneTwister::from_u32_seed(42);
+        match self {
+            State::Any => seeded,
+            State::FirstWordZero => {
+                let mut mt = seeded.mt;
+                mt[0] = 0;
+                mt[1] = 0;
+                MersenneTwister::from_parts(mt, 0)
+            }
+            State::Zeros => MersenneTwister::from_parts([0; 624], 700),
+            State::Largest => MersenneTwister::from_parts([u32::MAX; 624], u32::MAX),
+        }
     }
 }
 
-// The twister in a state, in the same order.
-fn twister_in(state: u32) -> MersenneTwister {
-    if state == ZEROS {
-        return MersenneTwister::from_parts([0u32; 624], 700);
-    }
-    if state == 3 {
-        return MersenneTwister::from_parts([0xFFFF_FFFFu32; 624], 0xFFFF_FFFF);
-    }
-    let seeded = MersenneTwister::from_u32_seed(42);
-    if state == 0 {
-        return seeded;
-    }
-    let mut mt = seeded.mt;
-    mt[0] = 0;
-    mt[1] = 0;
-    MersenneTwister::from_parts(mt, 0)
-}
-
-// A kind that has no use for the twister.
-fn small_backend(kind: u32, s: State) -> Backend {
-    if kind == 0 {
-        return Backend::Xoshiro256PlusPlus(Xoshiro256PlusPlus::from_parts(s.w0, s.w1, s.w2, s.w3));
-    }
-    if kind == 2 {
-        return Backend::Pcg32(Pcg32::from_parts(s.w0, s.w1));
-    }
-    let state = Wide {
-        high: s.w0,
-        low: s.w1,
+pub(crate) fn generator(kind: Kind, state: State) -> Random {
+    let [w0, w1, w2, w3] = state.words();
+    let backend = match kind {
+        Kind::Xoshiro256PlusPlus => {
+            Backend::Xoshiro256PlusPlus(Xoshiro256PlusPlus::from_parts(w0, w1, w2, w3))
+        }
+        Kind::MersenneTwister => Backend::MersenneTwister,
+        Kind::Pcg32 => Backend::Pcg32(Pcg32::from_parts(w0, w1)),
+        Kind::Pcg64 => {
+            let state = Wide { high: w0, low: w1 };
+            let inc = Wide { high: w2, low: w3 };
+            Backend::Pcg64(Pcg64::from_parts(state, inc))
+        }
     };
-    let inc = Wide {
-        high: s.w2,
-        low: s.w3,
+    let twister = match kind {
+        Kind::MersenneTwister => state.twister(),
+        _ => MersenneTwister::from_parts([SENTINEL; 624], state.position()),
     };
-    Backend::Pcg64(Pcg64::from_parts(state, inc))
-}
-
-pub(crate) fn generator(which: u32) -> Random {
-    let kind = which % KINDS;
-    let number = which / KINDS % 4;
-    if kind == 1 {
-        let twister = twister_in(number);
-        return Random {
-            backend: Backend::MersenneTwister,
-            twister,
-        };
-    }
-    let s = state_at(number);
-    let backend = small_backend(kind, s);
-    let twister = MersenneTwister::from_parts([SENTINEL; 624], s.mti);
     Random { backend, twister }
 }
 
 pub(crate) fn beside_zeros(backend: Backend) -> Random {
-    let twister = MersenneTwister::from_parts([0u32; 624], 0);
+    let twister = MersenneTwister::from_parts([0; 624], 0);
     Random { backend, twister }
 }
 
@@ -127,8 +110,5 @@ pub(crate) fn zeros() -> Random {
 
 // Whether two generators are the same struct: kind, small words, position and the whole table, used or not.
 pub(crate) fn same_generator(a: Random, b: Random) -> bool {
-    if a.twister.mti != b.twister.mti {
-        return false;
-    }
-    parts::same(a, b) && parts::same_words(&a.twister.mt, &b.twister.mt)
+    a.twister.mti == b.twister.mti && a.twister.mt == b.twister.mt && parts::same(a, b)
 }

@@ -1,186 +1,197 @@
-// What document 01 orders of a call, worked out word by word from `rand`, by value or over a lent table, and from the order's own sentence:
-// a word w is good below r if (w * r) mod 2^32 is at least 2^32 mod r, and draws the quotient.
-use crate::calls;
+// What document 01 orders of a call, worked out word by word from the order's own sentences.
+use crate::calls::Call;
+use crate::next_words::Words;
 use crate::table::Row;
-use crate::told::{Told, only};
+use crate::told::{BUDGET, Parts, Refused, Told, only};
 use mersenne_twister::MersenneTwister;
 use pcg::{Pcg32, Pcg64};
 use random::{Backend, Random};
 use wrapping::Wide;
 use xoshiro::Xoshiro256PlusPlus;
 
-const TWO_TO_32: u64 = 0x1_0000_0000;
-
-fn is_good(product: u64, r: u64) -> bool {
-    if r == 0 {
-        return false;
+// The bottle numbers of a list before a call: no two alike, and none 0.
+pub(crate) fn fill(list: &mut [u32]) {
+    let mut bottle = 0xB077_0000u32;
+    for entry in list.iter_mut() {
+        *entry = bottle;
+        bottle = bottle.wrapping_add(7);
     }
-    product % TWO_TO_32 >= TWO_TO_32 % r
 }
 
 fn swap(list: &mut [u32], i: u64, j: u64) {
-    let n = list.len() as u64;
-    if i < n {
-        if j < n {
-            let entry = list[i as usize];
-            list[i as usize] = list[j as usize];
-            list[j as usize] = entry;
-        }
+    let i = i as usize;
+    let j = j as usize;
+    if i < list.len() && j < list.len() {
+        list.swap(i, j);
     }
 }
 
-// Draws one after the other: below r, one less, and so on down to `last`, each from the first good word that is left of the budget,
-// with the swap of a shuffle. The value is the last quotient; where the budget ends first, the refusal is 8.
-pub(crate) fn drawn(g: Random, below: u64, last: u64, budget: u32, list: &mut [u32]) -> Told {
-    let mut e = random::engine_of(g);
-    let mut mt = g.twister.mt;
-    let mut used: u32 = 0;
-    let mut value: u64 = 0;
-    let mut r = below;
-    while used < budget {
-        if r < last {
-            break;
-        }
-        let w = random::next_u32(e, &mut mt);
-        let product = wrapping::mul_u64(w.word as u64, r);
-        e = w.next;
-        used += 1;
-        if is_good(product, r) {
-            value = product / TWO_TO_32;
-            r = std::num::wrapping_sub_u64(r, 1);
-            swap(list, r, value);
-        }
-    }
-    if r < last {
-        return Told {
-            refusal: 0,
-            place: 0,
-            value,
-            used,
-            next: random::with_table(e, mt),
+// Draws one after the other: below r, one less, and so on down to `last`, each from the first good word that is left of the budget, with
+// the swap of a shuffle. The value is the last quotient.
+fn drawn(g: Random, r: u64, last: u64, budget: u32, list: &mut [u32]) -> Told<Random> {
+    let mut words = Words::of(g, budget);
+    let mut value = 0;
+    for below in (last..=r).rev() {
+        let Some(quotient) = words.draw(below) else {
+            return only(Some(BUDGET), g);
         };
+        value = quotient;
+        swap(list, below.wrapping_sub(1), value);
     }
-    only(8, g)
+    let used = budget.wrapping_sub(words.left());
+    let said = Ok(Parts {
+        place: 0,
+        value,
+        used,
+    });
+    Told {
+        said,
+        next: words.generator(),
+    }
 }
 
 // A draw, or none where `below` is 0.
-pub(crate) fn draw(g: Random, below: u64, budget: u32) -> Told {
-    let last = if below == 0 { 1 } else { below };
-    drawn(g, below, last, budget, &mut [0u32; 0])
+fn draw(g: Random, below: u64, budget: u32) -> Told<Random> {
+    drawn(g, below, below.max(1), budget, &mut [])
 }
 
 // A number from `first` on, of which so many are drawn from.
-fn number(row: Row, g: Random, budget: u32) -> Told {
+fn number(row: Row, g: Random, budget: u32) -> Told<Random> {
     let mut told = draw(g, row.below, budget);
-    if told.refusal == 0 {
-        told.value = std::num::wrapping_add_u64(row.first.whole, told.value) % TWO_TO_32;
+    if let Ok(parts) = &mut told.said {
+        parts.value = row.first.0.wrapping_add(parts.value) % 0x1_0000_0000;
     }
     told
 }
 
-// How many words a double takes: one of kinds 0 and 3, two of kinds 1 and 2.
-fn words_of_double(kind: u32) -> u32 {
-    match kind {
-        1 | 2 => 2,
-        _ => 1,
+// A place: `choose` tells the entry there, and `rand_slice`, of no list, only that it starts there.
+fn picked(row: Row, g: Random, budget: u32, list: &[u32]) -> Told<Random> {
+    let mut told = draw(g, row.below, budget);
+    if let Ok(parts) = &mut told.said {
+        parts.place = parts.value;
+        parts.value = list
+            .get(parts.place as usize)
+            .map_or(0, |entry| u64::from(*entry));
     }
+    told
 }
 
-// The generator after one word, or two.
-fn after(g: Random, words: u32) -> Random {
+// A shuffle draws below the length, one less, and so on down to 2, and swaps; refused, it leaves the list as it came.
+fn shuffled(row: Row, g: Random, budget: u32, list: &mut [u32]) -> Told<Random> {
+    let mut told = drawn(g, row.below, 2, budget, list);
+    match &mut told.said {
+        Ok(parts) => parts.value = 0,
+        Err(_) => fill(list),
+    }
+    told
+}
+
+// The generator after the next double, and the words that it takes: one of 64 bits, or two of 32.
+fn after_double(g: Random) -> (u32, Random) {
     let once = random::rand(g).next;
-    if words == 1 {
-        return once;
+    match g.backend {
+        Backend::MersenneTwister | Backend::Pcg32(_) => (2, random::rand(once).next),
+        Backend::Xoshiro256PlusPlus(_) | Backend::Pcg64(_) => (1, once),
     }
-    random::rand(once).next
 }
 
-// The value from a double: `bool` whether it is below p, `uniform` low + (high - low) * double.
-fn value_of(call: usize, row: Row, double: f64) -> u64 {
-    let low = row.first.float;
-    if call == calls::BOOL {
-        return (double < low) as u64;
-    }
-    float_bits::pattern_of(low + (row.second.float - low) * double)
+fn next_double(g: Random) -> f64 {
+    floats::double_of(random::u64(g).word)
 }
 
-// The call on the next double. `uniform` does not tell the words.
-fn of_double(call: usize, row: Row, g: Random, kind: u32) -> Told {
-    let words = words_of_double(kind);
-    Told {
-        refusal: 0,
+// `bool`: whether the next double is below p.
+fn flipped(row: Row, g: Random) -> Told<Random> {
+    let (used, next) = after_double(g);
+    let said = Ok(Parts {
         place: 0,
-        value: value_of(call, row, floats::double_of(random::u64(g).word)),
-        used: if call == calls::BOOL { words } else { 0 },
-        next: after(g, words),
-    }
+        value: u64::from(next_double(g) < row.first.float()),
+        used,
+    });
+    Told { said, next }
 }
 
-// The kind's own call from a number.
-fn seeded(kind: u32, number: u32) -> Backend {
-    let wide = number as u64;
-    match kind {
-        0 => Backend::Xoshiro256PlusPlus(Xoshiro256PlusPlus::from_u64_seed(wide)),
-        1 => Backend::MersenneTwister,
-        2 => Backend::Pcg32(Pcg32::from_u64_seed(wide)),
-        _ => Backend::Pcg64(Pcg64::from_u128_seed(Wide { high: 0, low: wide })),
-    }
+// `uniform`: low + (high - low) * double. It does not tell the words.
+fn spread(row: Row, g: Random) -> Told<Random> {
+    let (_, next) = after_double(g);
+    let low = row.first.float();
+    let number = low + (row.second.float() - low) * next_double(g);
+    let said = Ok(Parts {
+        place: 0,
+        value: float_bits::pattern_of(number),
+        used: 0,
+    });
+    Told { said, next }
 }
 
-// The calls that change a generator and draw nothing: `seed` makes it anew by the kind's own call and keeps what the kind does not use,
-// `set_mti` sets the twister's position, at most 624, and does nothing on the other kinds; `fill_bytes`, of nothing, uses no word.
-fn changed(call: usize, row: Row, g: Random, kind: u32) -> Random {
-    let number = row.first.word;
-    let mut twister = g.twister;
-    let mut backend = g.backend;
-    if call == calls::SEED {
-        backend = seeded(kind, number);
-        if kind == 1 {
-            twister = MersenneTwister::from_u32_seed(number);
-        }
-    }
-    if call == calls::SET_MTI {
-        if kind == 1 {
-            twister.mti = if number > 624 { 624 } else { number };
-        }
-    }
-    Random { backend, twister }
-}
-
-// The group that a call is answered as, or none where it is refused at any budget: on kind 0 `split` is answered.
-fn answered_as(call: usize, row: Row, kind: u32) -> u32 {
-    let group = calls::group_of(call);
-    if row.refused == 0 {
-        return group;
-    }
-    if group == calls::SPLITS {
-        if kind == 0 {
-            return group;
-        }
-    }
-    calls::NO_GROUP
-}
-
-// `split` on kind 0: the parent jumps.
+// `split` on xoshiro256++: the parent jumps.
 fn split(g: Random) -> Random {
-    let backend = g.backend;
-    let twister = g.twister;
-    let Backend::Xoshiro256PlusPlus(x) = backend else {
-        return g;
-    };
-    Random {
-        backend: Backend::Xoshiro256PlusPlus(x.jump()),
-        twister,
+    match g.backend {
+        Backend::Xoshiro256PlusPlus(x) => Random {
+            backend: Backend::Xoshiro256PlusPlus(x.jump()),
+            ..g
+        },
+        _ => g,
     }
 }
 
-// The whole answer that is ordered on a generator of this kind, but for a call on a list.
-pub(crate) fn ordered(call: usize, row: Row, g: Random, kind: u32, budget: u32) -> Told {
-    match answered_as(call, row, kind) {
-        calls::DOUBLES => of_double(call, row, g, kind),
-        calls::SPLITS => only(0, split(g)),
-        calls::CHANGES => only(0, changed(call, row, g, kind)),
-        calls::NO_GROUP => only(row.refused, g),
-        _ => number(row, g, budget),
+// `seed` makes a generator anew by the kind's own call from a number, and keeps what the kind does not use.
+fn seeded(g: Random, number: u32) -> Random {
+    let wide = u64::from(number);
+    let backend = match g.backend {
+        Backend::Xoshiro256PlusPlus(_) => {
+            Backend::Xoshiro256PlusPlus(Xoshiro256PlusPlus::from_u64_seed(wide))
+        }
+        Backend::MersenneTwister => {
+            let twister = MersenneTwister::from_u32_seed(number);
+            return Random { twister, ..g };
+        }
+        Backend::Pcg32(_) => Backend::Pcg32(Pcg32::from_u64_seed(wide)),
+        Backend::Pcg64(_) => { Backend::Pcg64(Pcg64::from_u128_seed(Wide { high: 0, low: wide })) }
+    };
+    Random { backend, ..g }
+}
+
+// `set_mti` sets the twister's position, at most 624, and does nothing on the other kinds.
+fn with_position(g: Random, position: u32) -> Random {
+    let mut next = g;
+    if let Backend::MersenneTwister = g.backend {
+        next.twister.mti = position.min(624);
+    }
+    next
+}
+
+// The refusal that is ordered where the budget is enough: on xoshiro256++ `split` is answered.
+fn refused(call: Call, row: Row, g: Random) -> Option<Refused> {
+    match (call, g.backend) {
+        (Call::Split, Backend::Xoshiro256PlusPlus(_)) => None,
+        _ => row.refused,
+    }
+}
+
+// The whole answer that is ordered; the list is filled, and then holds what it must hold after the call.
+pub(crate) fn ordered(
+    call: Call,
+    row: Row,
+    g: Random,
+    list: &mut [u32],
+    budget: u32,
+) -> Told<Random> {
+    fill(list);
+    if let Some(refused) = refused(call, row, g) {
+        return only(Some(refused), g);
+    }
+    match call {
+        Call::Bounded | Call::RandomRange | Call::Uint => number(row, g, budget),
+        Call::Char | Call::Int | Call::Range => number(row, g, budget),
+        Call::Choose => picked(row, g, budget, list),
+        Call::RandSlice => picked(row, g, budget, &[]),
+        Call::Shuffle => shuffled(row, g, budget, list),
+        Call::Bool => flipped(row, g),
+        Call::Uniform => spread(row, g),
+        Call::Split => only(None, split(g)),
+        Call::Seed => only(None, seeded(g, row.first.word())),
+        Call::SetMti => only(None, with_position(g, row.first.word())),
+        // of nothing: it uses no word
+        Call::FillBytes => only(None, g),
     }
 }

@@ -1,11 +1,28 @@
-// The table: rows of numbers below headings. One of a call's numbers, in the types that calls take: whole, its low 32 bits, those read
-// as signed, and the float of which it is the bit pattern.
+// The table: rows of numbers below headings.
+use crate::told::Refused;
+use floats::Interval;
+
+// One of a call's numbers, in the types that calls take.
 #[derive(Clone, Copy)]
-pub(crate) struct Argument {
-    pub(crate) whole: u64,
-    pub(crate) word: u32,
-    pub(crate) signed: i32,
-    pub(crate) float: f64,
+pub(crate) struct Argument(pub(crate) u64);
+
+impl Argument {
+    // The low 32 bits.
+    pub(crate) fn word(self) -> u32 {
+        low_word(self.0)
+    }
+
+    pub(crate) fn signed(self) -> i32 {
+        self.word().cast_signed()
+    }
+
+    // The float with this bit pattern, NaN among them.
+    pub(crate) fn float(self) -> f64 {
+        if self.0 % 0x8000_0000_0000_0000 > 0x7FF0_0000_0000_0000 {
+            return f64::NAN;
+        }
+        float_bits::number_of(self.0)
+    }
 }
 
 // A call's arguments and what document 01 orders, as the head of the table says.
@@ -16,133 +33,75 @@ pub(crate) struct Row {
     pub(crate) second: Argument,
     pub(crate) length: usize,
     pub(crate) window: usize,
-    pub(crate) refused: u32,
+    pub(crate) refused: Option<Refused>,
     pub(crate) below: u64,
-    pub(crate) budget: u32,
+    pub(crate) budget: Option<u32>,
 }
 
-// A number that is read letter by letter, and whether it has begun and ended.
-#[derive(Clone, Copy)]
-struct Reading {
-    value: u64,
-    base: u64,
-    negative: bool,
-    begun: bool,
-    ended: bool,
-}
-
-// A number and the place just after it.
-#[derive(Clone, Copy)]
-struct Number {
-    value: u64,
-    end: usize,
-}
-
-fn digit_of(letter: u8) -> u64 {
-    if letter >= b'A' {
-        return (letter - b'A') as u64 + 10;
-    }
-    if letter >= b'0' {
-        return (letter - b'0') as u64;
-    }
-    0
-}
-
-// One letter more: a sign, the `x` of `0x`, or a digit. A space before it is passed over; a space after it, the line's end or a comment
-// ends it.
-fn read_on(n: Reading, letter: u8) -> Reading {
-    let mut r = n;
-    match letter {
-        b' ' => r.ended = n.begun,
-        b'\n' | b'#' => r.ended = true,
-        b'-' => r.negative = true,
-        b'x' => r.base = 16,
-        _ => {
-            r.value = std::num::wrapping_add_u64(
-                wrapping::mul_u64(n.value, n.base),
-                digit_of(letter),
-            );
+impl Row {
+    pub(crate) fn interval(self) -> Interval {
+        Interval {
+            low: self.first.float(),
+            high: self.second.float(),
         }
     }
-    r.begun = letter != b' ';
-    r
 }
 
-// The number that stands next in a line; 0 where none does, or a lone `-`. Less than 0 it is counted from 2^64 down.
-fn number_from(text: &[u8], from: usize) -> Number {
-    let mut r = Reading {
-        value: 0,
-        base: 10,
-        negative: false,
-        begun: false,
-        ended: false,
-    };
-    let mut end = from;
-    while end < text.len() {
-        r = read_on(r, text[end]);
-        if r.ended {
-            break;
-        }
-        end += 1;
-    }
-    let value = if r.negative {
-        std::num::wrapping_sub_u64(0, r.value)
-    } else {
-        r.value
-    };
-    Number { value, end }
-}
-
-// The low 32 bits.
 fn low_word(n: u64) -> u32 {
     (n % 0x1_0000_0000) as u32
 }
 
-// The float with a bit pattern, NaN among them.
-fn float_of(pattern: u64) -> f64 {
-    if pattern % 0x8000_0000_0000_0000 > 0x7FF0_0000_0000_0000 {
-        let infinity = 1.0 / 0.0;
-        return infinity - infinity;
-    }
-    float_bits::number_of(pattern)
+// A number's low 32 bits, or none where they are 0.
+fn word_but_0(n: u64) -> Option<u32> {
+    Some(low_word(n)).filter(|w| *w != 0)
 }
 
-fn read_as(n: u64) -> Argument {
-    let word = low_word(n);
-    Argument {
-        whole: n,
-        word,
-        signed: signed::signed_u32(word),
-        float: float_of(n),
+fn digit_of(letter: u8) -> u64 {
+    let digit = match letter {
+        b'A'.. => letter - b'A' + 10,
+        b'0'.. => letter - b'0',
+        _ => 0,
+    };
+    u64::from(digit)
+}
+
+// A column's number: a sign, the `x` of `0x`, and digits; 0 for a lone `-`. Less than 0 it is counted from 2^64 down. It is read letter by
+// letter, and not by `parse`, since a letter that `parse` would refuse is a digit here.
+fn number_of(column: &[u8]) -> u64 {
+    let mut base = 10;
+    let mut negative = false;
+    let mut value = 0u64;
+    for letter in column {
+        match letter {
+            b'-' => negative = true,
+            b'x' => base = 16,
+            _ => value = value.wrapping_mul(base).wrapping_add(digit_of(*letter)),
+        }
+    }
+    if negative {
+        value.wrapping_neg()
+    } else {
+        value
     }
 }
 
-// The letter at a place; a line's end past the last.
-pub(crate) fn letter(text: &[u8], at: usize) -> u8 {
-    if at < text.len() {
-        return text[at];
+// A row out of its line: its columns up to a comment; those that are left out are 0.
+pub(crate) fn row_of(line: &[u8], number: u64) -> Row {
+    let told = line.split(|b| *b == b'#').next().unwrap_or(line);
+    let columns = told.split(|b| *b == b' ').filter(|c| !c.is_empty());
+    let mut numbers = [0; 7];
+    for (n, column) in numbers.iter_mut().zip(columns) {
+        *n = number_of(column);
     }
-    b'\n'
-}
-
-pub(crate) fn row_at(text: &[u8], from: usize, line: u64) -> Row {
-    let first = number_from(text, from);
-    let second = number_from(text, first.end);
-    let length = number_from(text, second.end);
-    let window = number_from(text, length.end);
-    let refused = number_from(text, window.end);
-    let below = number_from(text, refused.end);
-    let budget = number_from(text, below.end);
-    let one = read_as(first.value);
-    let other = read_as(second.value);
+    let [first, second, length, window, refused, below, budget] = numbers;
     Row {
-        line,
-        first: one,
-        second: other,
-        length: length.value as usize,
-        window: window.value as usize,
-        refused: low_word(refused.value),
-        below: below.value,
-        budget: low_word(budget.value),
+        line: number,
+        first: Argument(first),
+        second: Argument(second),
+        length: length as usize,
+        window: window as usize,
+        refused: word_but_0(refused).map(Refused),
+        below,
+        budget: word_but_0(budget),
     }
 }

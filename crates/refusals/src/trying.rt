@@ -1,196 +1,156 @@
 // Each row of the table, tried on every generator, by value and over a lent table, at budgets on both sides of its need.
-use crate::generators::{GENERATORS, KINDS};
-use crate::listed::{ROOM, fill};
-use crate::order::ordered;
-use crate::report::Tally;
+ghost use Rattle.std.specs.Prelude.{◌<◌, ◌≤◌};
+
+use crate::calls::{Call, Tried};
+use crate::generators::{KINDS, STATES, State};
+use crate::listed::{LONGEST, Lists, ROOM, Way};
+use crate::report::{Place, Tally};
 use crate::table::Row;
-use crate::told::{Told, same_told};
-use crate::{calls, generators, listed, report, seeds, table, windows};
+use crate::told::BUDGET;
+use crate::{calls, generators, order, report, seeds, table, windows};
+use random::Random;
 use std::io;
 
 // Words that are looked through for a good one, more than two tables of the twister; for a long list as many more as it may have entries.
 const PATIENCE: u32 = 1300;
 
 // The tries of a row on a generator: four budgets by value, then the same over a lent table.
-const BUDGETS: u32 = 4;
+const WAYS: [Way; 2] = [Way::ByValue, Way::Lent];
 
-const TRIES: u32 = 8;
+const BUDGETS: usize = 4;
 
-// A call without a budget is tried once in each layer, and so is a row with a budget of its own, on the generators of zeros alone.
-fn is_left_out(call: usize, row: Row, which: u32, number: u32) -> bool {
-    if call <= calls::RAND_SLICE {
-        if row.budget == 0 {
-            return false;
+const TRIES: usize = 8;
+
+// A row's call on a generator in some state.
+#[derive(Clone, Copy)]
+struct Case {
+    call: Call,
+    row: Row,
+    g: Random,
+    state: State,
+}
+
+impl Case {
+    // The budgets of the row on the generator: its own, or else those around what it needs. Around are one short of it, just that, one more,
+    // and the largest; where no word is needed, or the call is refused at any budget, or no word is ever good, 0, 1, and two large ones.
+    fn budgets(self, lists: &mut Lists) -> [u32; BUDGETS] {
+        if let Some(own) = self.row.budget {
+            return [own; BUDGETS];
         }
-        if which / KINDS != generators::ZEROS {
-            return true;
+        let patience = if self.row.length < 1000 {
+            PATIENCE
+        } else {
+            PATIENCE + 65536
+        };
+        match lists.needed(self.call, self.row, self.g, patience).said {
+            Err(BUDGET) => [0, 1, PATIENCE, patience],
+            Ok(parts) if parts.used > 0 => {
+                let used = parts.used;
+                [used - 1, used, used.wrapping_add(1), u32::MAX]
+            }
+            _ => [0, 1, patience, u32::MAX],
         }
     }
-    number % BUDGETS != 0
-}
 
-// What is ordered where so many words may be looked at.
-fn needed(call: usize, row: Row, which: u32, patience: u32) -> Told {
-    let g = generators::generator(which);
-    if calls::group_of(call) == calls::LISTS {
-        return listed::needed(call, row, g, patience);
-    }
-    ordered(call, row, g, which % KINDS, patience)
-}
-
-// The budgets around what is needed: one short of it, just that, one more, and the largest. Where no word is needed, or the call is
-// refused at any budget, or no word is ever good: 0, 1, and two large ones.
-fn around(refusal: u32, used: u32, patience: u32) -> [u32; 4] {
-    if refusal == 8 {
-        return [0, 1, PATIENCE, patience];
-    }
-    if used == 0 {
-        return [0, 1, patience, 0xFFFF_FFFF];
-    }
-    let more = std::num::wrapping_add_u32(used, 1);
-    [used - 1, used, more, 0xFFFF_FFFF]
-}
-
-// The budgets of a row on a generator: its own, or else those around what it needs.
-fn budgets_for(call: usize, row: Row, which: u32) -> [u32; 4] {
-    if row.budget != 0 {
-        return [row.budget; 4];
-    }
-    let patience = if row.length < 1000 {
-        PATIENCE
-    } else {
-        PATIENCE + 65536
-    };
-    let told = needed(call, row, which, patience);
-    around(told.refusal, told.used, patience)
-}
-
-// One try: whether the whole answer is as ordered.
-fn try_once(call: usize, row: Row, which: u32, budget: u32, lent: bool) -> bool {
-    let g = generators::generator(which);
-    if calls::group_of(call) == calls::LISTS {
-        return listed::is_as_ordered(call, row, g, budget, lent);
-    }
-    let told = if lent {
-        calls::ask_in(call, row, g, budget)
-    } else {
-        calls::ask(call, row, g, budget)
-    };
-    same_told(told, ordered(call, row, g, which % KINDS, budget))
-}
-
-// A try's number among all tries of its row.
-fn try_at(which: u32, number: u32) -> u32 {
-    std::num::wrapping_add_u32(wrapping::mul_u32(which, TRIES), number)
-}
-
-// The tries of a row on a generator.
-fn try_on(rt: &impl Print, t: Tally, call: usize, row: Row, which: u32) -> io::Result<Tally> {
-    let budgets = budgets_for(call, row, which);
-    let mut tally = t;
-    let mut number: u32 = 0;
-    while number < TRIES {
-        if !is_left_out(call, row, which, number) {
-            let budget = budgets[(number % BUDGETS) as usize];
-            let right = try_once(call, row, which, budget, number >= BUDGETS);
-            let at = try_at(which, number);
-            tally = report::counted(rt, tally, right, row.line, at, budget as u64)?;
+    // How many of them are tried. A call without a budget is tried once in each layer, and so is a row with a budget of its own, on the
+    // generators of zeros alone.
+    fn tried(self) -> usize {
+        if !self.call.has_budget() {
+            return 1;
         }
-        number += 1;
+        match self.row.budget {
+            None => BUDGETS,
+            Some(_) if self.state == State::Zeros => 1,
+            Some(_) => 0,
+        }
+    }
+
+    // The tries, the first of which has this number among all tries of the row.
+    fn try_all(self, rt: &impl Print, first: usize, lists: &mut Lists) -> io::Result<Tally>
+        requires { first ≤ 1000 }
+    {
+        let budgets = self.budgets(lists);
+        let tried = self.tried();
+        let mut tally = Tally::default();
+        for (layer, way) in WAYS.iter().enumerate() {
+            for (i, budget) in budgets.iter().take(tried).enumerate() {
+                let right = lists.are_as_ordered(self.call, self.row, self.g, *budget, *way);
+                let place = Place {
+                    line: self.row.line,
+                    number: first + BUDGETS * layer + i,
+                    budget: u64::from(*budget),
+                };
+                tally += report::judged(rt, right, place)?;
+            }
+        }
+        Ok(tally)
+    }
+}
+
+// A row of a call that draws from a generator or changes it.
+fn try_call(rt: &impl Print, call: Call, row: Row) -> io::Result<Tally> {
+    let mut lists = Lists::new();
+    let mut tally = Tally::default();
+    for (i, state) in STATES.iter().enumerate() {
+        for (j, kind) in KINDS.iter().enumerate() {
+            let case = Case {
+                call,
+                row,
+                g: generators::generator(*kind, *state),
+                state: *state,
+            };
+            tally += case.try_all(rt, TRIES * (KINDS.len() * i + j), &mut lists)?;
+        }
     }
     Ok(tally)
 }
 
-// A row of a call that draws from a generator or changes it.
-fn try_call(rt: &impl Print, call: usize, row: Row) -> io::Result<Tally> {
-    let mut t = report::none();
-    let mut which: u32 = 0;
-    while which < GENERATORS {
-        t = try_on(rt, t, call, row, which)?;
-        which += 1;
-    }
-    Ok(t)
-}
-
 // `window_of` of the list's first entries.
 fn try_window(rt: &impl Print, row: Row) -> io::Result<Tally> {
-    let mut list = [0u32; ROOM];
-    fill(&mut list);
+    let mut list = [0; ROOM];
+    order::fill(&mut list);
     report::one(rt, windows::is_as_ordered(row, &list), row.line)
 }
 
 // A row of any call. One that can't be tried counts as one that is not as ordered.
-fn try_row(rt: &impl Print, call: usize, row: Row) -> io::Result<Tally> {
-    if row.length > ROOM - 3 {
-        return report::one(rt, false, row.line);
-    }
-    if call < calls::MAKE {
-        return try_call(rt, call, row);
-    }
-    match call {
-        calls::MAKE => seeds::try_row(rt, row),
-        calls::WINDOW_OF => try_window(rt, row),
+fn try_row(rt: &impl Print, tried: Option<Tried>, row: Row) -> io::Result<Tally> {
+    match tried {
+        Some(tried) if row.length <= LONGEST => match tried {
+            Tried::OnGenerators(call) => try_call(rt, call, row),
+            Tried::Make => seeds::try_row(rt, row),
+            Tried::WindowOf => try_window(rt, row),
+        },
         _ => report::one(rt, false, row.line),
     }
 }
 
-// What was tried so far: in all, and below the heading last read; where that stands; the lines read, and whether a line begins.
-#[derive(Clone, Copy)]
-struct Run {
-    all: Tally,
-    here: Tally,
-    heading: usize,
-    lines: u64,
-    begins: bool,
-}
-
-// The heading's line of the report, where rows stand below it.
-fn closed(rt: &impl Print, run: Run, text: &[u8]) -> io::Result<Tally> {
-    if run.here.of > 0 {
-        report::write_heading(rt, text, run.heading)?;
-        report::write_tally(rt, run.here)?;
-    }
-    Ok(report::added(run.all, run.here))
-}
-
-// A letter of the table, which matters where a line begins: a row begins with a space, a heading with a letter or a digit.
-fn take_letter(rt: &impl Print, run: Run, text: &[u8], at: usize) -> io::Result<Run> {
-    let mut next = run;
-    let letter = table::letter(text, at);
-    next.begins = letter == b'\n';
-    if !run.begins {
-        return Ok(next);
-    }
-    next.lines = std::num::wrapping_add_u64(run.lines, 1);
-    match letter {
-        b' ' => {
-            let call = calls::number_at(text, std::num::wrapping_add_usize(run.heading, 18));
-            let row = table::row_at(text, at, next.lines);
-            next.here = report::added(run.here, try_row(rt, call, row)?);
-        }
-        b'#' | b'\n' => {}
-        _ => {
-            next.all = closed(rt, run, text)?;
-            next.here = report::none();
-            next.heading = at;
-        }
-    }
-    Ok(next)
-}
-
-// Every row of the table, and a line of the report for each heading.
+// Every row of the table, and a line of the report for each heading. A row begins with a space, a heading with a letter or a digit.
 pub(crate) fn try_table(rt: &impl Print, text: &[u8]) -> io::Result<()> {
-    let mut run = Run {
-        all: report::none(),
-        here: report::none(),
-        heading: 0,
-        lines: 0,
-        begins: true,
-    };
-    let mut at: usize = 0;
-    while at < text.len() {
-        run = take_letter(rt, run, text, at)?;
-        at += 1;
+    let mut all = Tally::default();
+    let mut here = Tally::default();
+    // the table from the heading last read on, and from this line on
+    let mut heading = text;
+    let mut rest = text;
+    for (line, number) in text.split(|b| *b == b'\n').zip(1u64..) {
+        match line {
+            [] | [b'#', ..] => {}
+            [b' ', ..] => {
+                let tried = heading.get(18..26).and_then(calls::named);
+                here += try_row(rt, tried, table::row_of(line, number))?;
+            }
+            _ => {
+                report::write_heading(rt, heading, here)?;
+                all += here;
+                here = Tally::default();
+                heading = rest;
+            }
+        }
+        rest = match rest.get(line.len()..) {
+            Some([_, after @ ..]) => after,
+            _ => &[],
+        };
     }
-    report::write_tally(rt, closed(rt, run, text)?)
+    report::write_heading(rt, heading, here)?;
+    all += here;
+    println!(rt; "{all}")
 }

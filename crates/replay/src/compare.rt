@@ -1,12 +1,12 @@
 // Rows compared: a row's call is made, and the eight words of its answer are held to those recorded.
 use crate::outcome::Outcome;
-use crate::sample::ANSWER;
-use crate::{digest, perform, sample, start};
-use std::io;
-use telling::{number, small, text, word};
+use crate::sample::{ANSWER_WORDS, Row};
+use crate::{calls, perform, start};
+use std::ops::AddAssign;
+use std::{fmt, io};
 
 // Rows that agree, of so many; and damages that were found, each alone and in its place, of so many.
-#[derive(Clone, Copy)]
+#[derive(Clone, Copy, Default)]
 pub(crate) struct Tally {
     pub(crate) agree: u64,
     pub(crate) rows: u64,
@@ -14,142 +14,104 @@ pub(crate) struct Tally {
     pub(crate) damages: u64,
 }
 
-// At most so many differences of a file are told.
-const FEW: u32 = 3;
-
-// A row and the first word of its answer that differs, 8 where none does; what is recorded, and what is answered here.
-#[derive(Clone, Copy)]
-pub(crate) struct Difference {
-    pub(crate) row: u32,
-    pub(crate) word: u32,
-    pub(crate) recorded: u32,
-    pub(crate) here: u32,
+impl AddAssign for Tally {
+    fn add_assign(&mut self, other: Tally) {
+        self.agree = self.agree.wrapping_add(other.agree);
+        self.rows = self.rows.wrapping_add(other.rows);
+        self.found = self.found.wrapping_add(other.found);
+        self.damages = self.damages.wrapping_add(other.damages);
+    }
 }
 
-pub(crate) fn difference_at(row: u32, word: u32) -> Difference {
-    Difference {
-        row,
-        word,
-        recorded: 0,
-        here: 0,
+impl fmt::Display for Tally {
+    fn fmt<W: fmt::Write>(&self, f: &mut fmt::Formatter<W>) -> fmt::Result {
+        let agree = self.agree;
+        let rows = self.rows;
+        let found = self.found;
+        let damages = self.damages;
+        write!(
+            f,
+            "{agree} of {rows} rows agree, and {found} of {damages} damages are told"
+        )
+    }
+}
+
+// At most so many differences of a file are told.
+const FEW: usize = 3;
+
+// A row, and a word of its answer.
+#[derive(Clone, Copy, PartialEq, Eq)]
+pub(crate) struct Place {
+    pub(crate) row: usize,
+    pub(crate) word: usize,
+}
+
+// The first word of a row's answer that differs: what is recorded, and what is answered here.
+#[derive(Clone, Copy)]
+struct Difference {
+    place: Place,
+    recorded: u32,
+    here: u32,
+}
+
+impl fmt::Display for Difference {
+    fn fmt<W: fmt::Write>(&self, f: &mut fmt::Formatter<W>) -> fmt::Result {
+        let row = self.place.row;
+        let word = self.place.word;
+        let recorded = self.recorded;
+        let here = self.here;
+        write!(
+            f,
+            "row {row} differs, answer word {word}: recorded 0x{recorded:08x}, here 0x{here:08x}"
+        )
     }
 }
 
 // How many rows agree, and the last one that does not.
 #[derive(Clone, Copy)]
 pub(crate) struct Compared {
-    pub(crate) agree: u32,
-    pub(crate) last: Difference,
+    pub(crate) agree: usize,
+    pub(crate) last: Option<Place>,
 }
 
-// The eight words that tell an outcome.
-fn told(o: Outcome) -> [u32; 8] {
-    let after = o.next;
-    let sum = digest::of_generator(after);
-    let first = random::rand(after);
-    let between = first.next;
-    let second = random::rand(between);
-    [
-        o.refusal,
-        sample::low_half(o.value),
-        sample::high_half(o.value),
-        o.used,
-        first.word,
-        second.word,
-        sample::low_half(sum),
-        sample::high_half(sum),
-    ]
+fn answer(row: &Row) -> [u32; ANSWER_WORDS] {
+    let g = start::generator(row);
+    calls::numbered(row.call)
+        .and_then(|call| perform::perform(call, g, row.arguments))
+        .unwrap_or(Outcome::unknown(g))
+        .words()
 }
 
-fn answer(data: &[u8], row: u32) -> [u32; 8] {
-    let call = sample::word(data, row, 0);
-    let arguments = sample::arguments_of(data, row);
-    told(perform::perform(call, start::generator(data, row), arguments))
-}
-
-fn compared_row(data: &[u8], row: u32) -> Difference {
-    let answered = answer(data, row);
-    let mut j: u32 = 0;
-    while j < 8 {
-        let recorded = sample::word(data, row, ANSWER + j);
-        let here = answered[j as usize];
+fn first_difference(at: usize, row: &Row) -> Option<Difference> {
+    let answered = answer(row);
+    for (word, (recorded, here)) in row.answer.iter().zip(answered.iter()).enumerate() {
         if recorded != here {
-            return Difference {
-                row,
-                word: j,
-                recorded,
-                here,
-            };
+            return Some(Difference {
+                place: Place { row: at, word },
+                recorded: *recorded,
+                here: *here,
+            });
         }
-        j += 1;
     }
-    difference_at(row, 8)
-}
-
-fn tell(rt: &impl Print, name: &[u8], state: &[u8], d: Difference) -> io::Result<()> {
-    text(rt, name)?;
-    text(rt, state)?;
-    text(rt, b": row ")?;
-    small(rt, d.row)?;
-    text(rt, b" differs, answer word ")?;
-    small(rt, d.word)?;
-    text(rt, b": recorded ")?;
-    word(rt, d.recorded)?;
-    text(rt, b", here ")?;
-    word(rt, d.here)?;
-    text(rt, b"\n")
-}
-
-fn tell_count(
-    rt: &impl Print,
-    name: &[u8],
-    state: &[u8],
-    agree: u32,
-    count: u32,
-) -> io::Result<()> {
-    text(rt, name)?;
-    text(rt, state)?;
-    text(rt, b": ")?;
-    small(rt, agree)?;
-    text(rt, b" of ")?;
-    small(rt, count)?;
-    text(rt, b" rows agree\n")
+    None
 }
 
 // The rows of a file, told by its name and whether it is damaged.
-pub(crate) fn rows(
-    rt: &impl Print,
-    name: &[u8],
-    state: &[u8],
-    data: &[u8],
-    count: u32,
-) -> io::Result<Compared> {
-    let mut last = difference_at(0, 8);
-    let mut agree: u32 = 0;
-    let mut row: u32 = 0;
-    while row < count {
-        let d = compared_row(data, row);
-        if d.word == 8 {
-            agree = std::num::wrapping_add_u32(agree, 1);
-        } else {
-            if std::num::wrapping_sub_u32(row, agree) < FEW {
-                tell(rt, name, state, d)?;
-            }
-            last = d;
+pub(crate) fn rows(rt: &impl Print, name: &str, state: &str, rows: &[Row]) -> io::Result<Compared> {
+    let mut last = None;
+    let mut differing = 0usize;
+    for (at, row) in rows.iter().enumerate() {
+        let Some(difference) = first_difference(at, row) else {
+            continue;
+        };
+        if differing < FEW {
+            println!(rt; "{name}{state}: {difference}")?;
         }
-        row += 1;
+        differing = differing.wrapping_add(1);
+        last = Some(difference.place);
     }
-    tell_count(rt, name, state, agree, count)?;
+    let count = rows.len();
+    let agree = count.wrapping_sub(differing);
+    println!(rt; "{name}{state}: {agree} of {count} rows agree")?;
     Ok(Compared { agree, last })
-}
-
-pub(crate) fn total(rt: &impl Print, t: Tally) -> io::Result<()> {
-    number(rt, t.agree)?;
-    text(rt, b" of ")?;
-    number(rt, t.rows)?;
-    text(rt, b" rows agree, and ")?;
-    number(rt, t.found)?;
-    text(rt, b" of ")?;
-    number(rt, t.damages)?;
-    text(rt, b" damages are told\n")
 }

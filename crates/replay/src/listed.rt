@@ -1,84 +1,49 @@
 // Lists and buffers: `choose`, `shuffle`, `rand_slice` and byte filling. Entry i of a list is 7 * i + 3.
+use crate::digest::Digest;
 use crate::outcome::Outcome;
-use crate::sample::Arguments;
-use crate::{calls, digest, outcome, sample};
 use random::Random;
 
 fn number_entries(list: &mut [u32]) {
-    let mut i: usize = 0;
-    let mut entry: u32 = 3;
-    while i < list.len() {
-        list[i] = entry;
-        entry = std::num::wrapping_add_u32(entry, 7);
-        i += 1;
+    let mut next = 3u32;
+    for entry in list.iter_mut() {
+        *entry = next;
+        next = next.wrapping_add(7);
     }
 }
 
-fn choose(g: Random, list: &[u32], budget: u32) -> Outcome {
-    let d = lists::choose(g, list, budget);
-    let next = d.next;
-    Outcome {
-        refusal: d.refusal,
-        value: sample::joined(d.value, sample::low_half(d.place as u64)),
-        used: d.used,
-        next,
-    }
-}
-
-fn shuffle(g: Random, list: &mut [u32], budget: u32) -> Outcome {
-    let d = shuffle::shuffle(g, list, budget);
-    let next = d.next;
-    Outcome {
-        refusal: d.refusal,
-        value: digest::with_words(digest::START, list),
-        used: d.used,
-        next,
-    }
-}
-
-fn rand_slice(g: Random, list: &[u32], window: u32, budget: u32) -> Outcome {
-    let d = lists::rand_slice(g, list, window as usize, budget);
-    let next = d.next;
-    Outcome {
-        refusal: d.refusal,
-        value: d.start as u64,
-        used: d.used,
-        next,
-    }
-}
-
-fn on_list(call: u32, g: Random, list: &mut [u32], a: Arguments) -> Outcome {
+// A call on a list of so many entries, where there is room for them.
+fn on_list<F: FnOnce(&mut [u32]) -> Outcome>(n: u32, call: F) -> Option<Outcome>
+    requires { F.IsAlwaysCallable call }
+{
+    let mut room = [0; 65536];
+    let list = room.get_mut(..n as usize)?;
     number_entries(list);
-    if call == calls::CHOOSE {
-        return choose(g, list, a.fourth);
-    }
-    if call == calls::SHUFFLE {
-        return shuffle(g, list, a.fourth);
-    }
-    rand_slice(g, list, a.second, a.fourth)
+    Some(call(list))
 }
 
-// `choose`, `shuffle` or `rand_slice`, on a list of so many entries.
-pub(crate) fn perform(call: u32, g: Random, a: Arguments) -> Outcome {
-    let mut room = [0u32; 65536];
-    let n = a.first as usize;
-    if n <= 65536 {
-        return on_list(call, g, &mut room[0..n], a);
-    }
-    outcome::unknown(g)
+pub(crate) fn choose(g: Random, n: u32, budget: u32) -> Option<Outcome> {
+    on_list(n, |list| Outcome::of_choice(lists::choose(g, list, budget)))
 }
 
-fn fill(g: Random, dest: &mut [u8]) -> Outcome {
-    let next = filling::fill_bytes(g, dest);
-    outcome::plain(digest::of_bytes(dest), next)
+pub(crate) fn shuffle(g: Random, n: u32, budget: u32) -> Option<Outcome> {
+    on_list(n, |list| {
+        let drawn = Outcome::of_shuffle(shuffle::shuffle(g, list, budget));
+        let value = Digest::new().words(list).0;
+        Outcome { value, ..drawn }
+    })
+}
+
+pub(crate) fn rand_slice(g: Random, n: u32, window: u32, budget: u32) -> Option<Outcome> {
+    on_list(
+        n,
+        |list| Outcome::of_start(lists::rand_slice(g, list, window as usize, budget)),
+    )
 }
 
 // `fill_bytes`, of so many bytes.
-pub(crate) fn perform_filling(g: Random, length: u32) -> Outcome {
-    let mut room = [0u8; 4096];
-    let n = length as usize;
-    if n <= 4096 {
-        return fill(g, &mut room[0..n]);
-    }
-    outcome::unknown(g)
+pub(crate) fn fill_bytes(g: Random, n: u32) -> Option<Outcome> {
+    let mut room = [0; 4096];
+    let bytes = room.get_mut(..n as usize)?;
+    let next = filling::fill_bytes(g, bytes);
+    Some(Outcome::plain(Digest::new().bytes(bytes).0, next))
 }

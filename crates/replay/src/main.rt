@@ -5,7 +5,6 @@
 mod calls;
 mod compare;
 mod digest;
-mod draws;
 mod file;
 mod listed;
 mod outcome;
@@ -13,63 +12,52 @@ mod perform;
 mod runs;
 mod sample;
 mod start;
-mod state;
-mod words_and_floats;
 
 use compare::Tally;
 use std::io;
-use std::rt::Files;
 
-fn words_and_state(rt: &(impl Print + Files), t: Tally) -> io::Result<Tally> {
-    let mut tally = file::replay(rt, t, "rand")?;
-    tally = file::replay(rt, tally, "u64")?;
-    tally = file::replay(rt, tally, "i64")?;
-    tally = file::replay(rt, tally, "pseudo")?;
-    tally = file::replay(rt, tally, "seed")?;
-    tally = file::replay(rt, tally, "split")?;
-    tally = file::replay(rt, tally, "mti")?;
-    tally = file::replay(rt, tally, "set_mti")?;
-    tally = file::replay(rt, tally, "twist")?;
-    file::replay(rt, tally, "fill_bytes")
-}
-
-fn draws_and_floats(rt: &(impl Print + Files), t: Tally) -> io::Result<Tally> {
-    let mut tally = file::replay(rt, t, "bounded")?;
-    tally = file::replay(rt, tally, "random_range")?;
-    tally = file::replay(rt, tally, "int")?;
-    tally = file::replay(rt, tally, "range")?;
-    tally = file::replay(rt, tally, "uint")?;
-    tally = file::replay(rt, tally, "char")?;
-    tally = file::replay(rt, tally, "choose")?;
-    tally = file::replay(rt, tally, "float")?;
-    tally = file::replay(rt, tally, "double")?;
-    tally = file::replay(rt, tally, "bool")?;
-    tally = file::replay(rt, tally, "uniform")?;
-    tally = file::replay(rt, tally, "shuffle")?;
-    file::replay(rt, tally, "rand_slice")
-}
-
-fn makers_and_edges(rt: &(impl Print + Files), t: Tally) -> io::Result<Tally> {
-    let mut tally = file::replay(rt, t, "seeds")?;
-    tally = file::replay(rt, tally, "streams")?;
-    tally = file::replay(rt, tally, "bytes")?;
-    tally = file::replay(rt, tally, "parts")?;
-    tally = file::replay(rt, tally, "out_of_budget")?;
-    tally = file::replay(rt, tally, "above_624")?;
-    tally = file::replay(rt, tally, "list_edges")?;
-    tally = file::replay(rt, tally, "folded_to_zero")?;
-    file::replay(rt, tally, "long_runs")
-}
+const SAMPLES: [&str; 32] = [
+    // words and state
+    "rand",
+    "u64",
+    "i64",
+    "pseudo",
+    "seed",
+    "split",
+    "mti",
+    "set_mti",
+    "twist",
+    "fill_bytes",
+    // draws and floats
+    "bounded",
+    "random_range",
+    "int",
+    "range",
+    "uint",
+    "char",
+    "choose",
+    "float",
+    "double",
+    "bool",
+    "uniform",
+    "shuffle",
+    "rand_slice",
+    // makers and edges
+    "seeds",
+    "streams",
+    "bytes",
+    "parts",
+    "out_of_budget",
+    "above_624",
+    "list_edges",
+    "folded_to_zero",
+    "long_runs",
+];
 
 fn main(rt: HostRuntime) -> io::Result<()> {
-    let start = Tally {
-        agree: 0,
-        rows: 0,
-        found: 0,
-        damages: 0,
-    };
-    let first = words_and_state(&rt, start)?;
-    let second = draws_and_floats(&rt, first)?;
-    let all = makers_and_edges(&rt, second)?;
-    compare::total(&rt, all)
+    let mut all = Tally::default();
+    for name in SAMPLES.iter() {
+        all += file::replay(&rt, name)?;
+    }
+    println!(rt; "{all}")
 }

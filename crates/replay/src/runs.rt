@@ -1,48 +1,31 @@
 // The long runs, over a lent table: the digest of so many words, and of so many draws.
+use crate::digest::Digest;
 use crate::outcome::Outcome;
-use crate::{calls, digest, outcome};
 use random::Random;
 
 // The next n words.
 pub(crate) fn words(g: Random, n: u32) -> Outcome {
     let mut e = random::engine_of(g);
     let mut mt = g.twister.mt;
-    let mut sum = digest::START;
-    let mut i: u32 = 0;
-    while i < n {
+    let mut sum = Digest::new();
+    for _ in 0..n {
         let d = random::next_u32(e, &mut mt);
         e = d.next;
-        sum = digest::with_word(sum, d.word);
-        i += 1;
+        sum = sum.word(d.word);
     }
-    outcome::plain(sum, random::with_table(e, mt))
+    Outcome::plain(sum.0, random::with_table(e, mt))
 }
 
-// The bound of draw k: a multiple of Knuth's 2654435761, and 1 where that is 0.
-fn bound_at(k: u32) -> u32 {
-    let bound = wrapping::mul_u32(k, 2_654_435_761);
-    if bound == 0 { 1 } else { bound }
-}
-
-// The next n draws.
-fn draws(g: Random, n: u32) -> Outcome {
+// The next n draws. The bound of draw k is a multiple of Knuth's 2654435761, and 1 where that is 0.
+pub(crate) fn draws(g: Random, n: u32) -> Outcome {
     let mut e = random::engine_of(g);
     let mut mt = g.twister.mt;
-    let mut sum = digest::START;
-    let mut i: u32 = 0;
-    while i < n {
-        let d = bounded::bounded_in(e, &mut mt, bound_at(i), 0xFFFF_FFFF);
+    let mut sum = Digest::new();
+    for k in 0..n {
+        let bound = k.wrapping_mul(2_654_435_761).max(1);
+        let d = bounded::bounded_in(e, &mut mt, bound, u32::MAX);
         e = d.next;
-        sum = digest::with_word(sum, d.value);
-        i += 1;
+        sum = sum.word(words::numbered(d.told).value);
     }
-    outcome::plain(sum, random::with_table(e, mt))
-}
-
-// Either of the two.
-pub(crate) fn perform(call: u32, g: Random, n: u32) -> Outcome {
-    if call == calls::WORDS {
-        return words(g, n);
-    }
-    draws(g, n)
+    Outcome::plain(sum.0, random::with_table(e, mt))
 }

@@ -2,57 +2,81 @@
 // number of rows, then the rows: call, kind, maker, words skipped, the maker's 8 words, 4 arguments (the last one the budget where
 // there is one), and the answer: refusal, value (low, high), words used, the next two words, and the digest of the generator after the
 // call (low, high).
+use std::alloc::Global;
+use std::io;
+use std::io::ErrorKind;
 
-pub(crate) const WORDS: u32 = 24;
+const WORDS: usize = 24;
 
-pub(crate) const MAKER: u32 = 4;
+const BYTES: usize = 4 * WORDS;
 
-pub(crate) const ARGUMENTS: u32 = 12;
+pub(crate) const ANSWER_WORDS: usize = 8;
 
-pub(crate) const ANSWER: u32 = 16;
-
-// The four arguments of a call.
 #[derive(Clone, Copy)]
-pub(crate) struct Arguments {
-    pub(crate) first: u32,
-    pub(crate) second: u32,
-    pub(crate) third: u32,
-    pub(crate) fourth: u32,
+pub(crate) struct Row {
+    pub(crate) call: u32,
+    pub(crate) kind: u32,
+    pub(crate) maker: u32,
+    pub(crate) skipped: u32,
+    // the maker's words, two and two, the low one first
+    pub(crate) numbers: [u64; 4],
+    pub(crate) arguments: [u32; 4],
+    pub(crate) answer: [u32; ANSWER_WORDS],
 }
 
-// Where word j of a row begins, in bytes.
-pub(crate) fn place(row: u32, j: u32) -> usize {
-    4 * (2 + 24 * (row as usize) + (j as usize))
+// The words that stand in these bytes; 0 past their end.
+fn words_of<const N: usize>(bytes: &[u8]) -> [u32; N] {
+    let mut words = [0; N];
+    let (fours, _) = bytes.as_chunks();
+    for (word, four) in words.iter_mut().zip(fours) {
+        *word = u32::from_le_bytes(*four);
+    }
+    words
 }
 
-// Word j of a row; 0 past the file's end.
-pub(crate) fn word(data: &[u8], row: u32, j: u32) -> u32 {
-    wrapping::le_u32(data, place(row, j))
+// The same of four words of 64 bits.
+fn numbers_of(bytes: &[u8]) -> [u64; 4] {
+    let mut numbers = [0; 4];
+    let (eights, _) = bytes.as_chunks();
+    for (number, eight) in numbers.iter_mut().zip(eights) {
+        *number = u64::from_le_bytes(*eight);
+    }
+    numbers
 }
 
-// The words j and j + 1 of a row as a number, the low one first.
-pub(crate) fn long(data: &[u8], row: u32, j: u32) -> u64 {
-    wrapping::le_u64(data, place(row, j))
-}
+impl Row {
+    fn of(bytes: &[u8; BYTES]) -> Row {
+        let [call, kind, maker, skipped] = words_of::<4>(&bytes[..16]);
+        Row {
+            call,
+            kind,
+            maker,
+            skipped,
+            numbers: numbers_of(&bytes[16..48]),
+            arguments: words_of(&bytes[48..64]),
+            answer: words_of(&bytes[64..]),
+        }
+    }
 
-pub(crate) fn arguments_of(data: &[u8], row: u32) -> Arguments {
-    Arguments {
-        first: word(data, row, ARGUMENTS),
-        second: word(data, row, ARGUMENTS + 1),
-        third: word(data, row, ARGUMENTS + 2),
-        fourth: word(data, row, ARGUMENTS + 3),
+    // All rows of a file, if it is of the width and the length that its head says.
+    pub(crate) fn all(alloc: Global, data: &[u8]) -> io::Result<Vec<Row>> {
+        let wrong = || io::Error::from(ErrorKind::InvalidData);
+        let (head, body) = data.split_first_chunk::<8>().ok_or_else(wrong)?;
+        let (rows, left) = body.as_chunks::<BYTES>();
+        let (width, count) = halves(u64::from_le_bytes(*head));
+        if width as usize != WORDS || count as usize != rows.len() || !left.is_empty() {
+            return Err(wrong());
+        }
+        Ok(rows.iter().map(Row::of).collect(alloc)?)
     }
 }
 
 // Two words as a number, the low one first.
 pub(crate) fn joined(low: u32, high: u32) -> u64 {
-    (high as u64) * 0x1_0000_0000 + (low as u64)
+    u64::from(high) * 0x1_0000_0000 + u64::from(low)
 }
 
-pub(crate) fn low_half(n: u64) -> u32 {
-    (n % 0x1_0000_0000) as u32
-}
-
-pub(crate) fn high_half(n: u64) -> u32 {
-    (n / 0x1_0000_0000) as u32
+// A number as two words, the low one first.
+pub(crate) fn halves(n: u64) -> (u32, u32) {
+    ((n % 0x1_0000_0000) as u32, (n / 0x1_0000_0000) as u32)
 }

@@ -1,124 +1,117 @@
 // The generator before a row's call: made of the maker's eight words, and so many words skipped.
-use crate::sample::MAKER;
-use crate::{runs, sample};
+ghost use Rattle.std.specs.Prelude.{◌≤◌};
+
+use crate::runs;
+use crate::sample::{Row, halves};
 use mersenne_twister::MersenneTwister;
 use pcg::{Pcg32, Pcg64};
 use random::Random;
 use wrapping::Wide;
 use xoshiro::Xoshiro256PlusPlus;
 
-// Two numbers of 128 bits.
 #[derive(Clone, Copy)]
-struct Numbers {
-    first: Wide,
-    second: Wide,
+enum Kind {
+    Xoshiro256PlusPlus,
+    MersenneTwister,
+    Pcg32,
+    Pcg64,
 }
 
-// The eight words as two numbers, low word first.
-fn numbers_of(data: &[u8], row: u32) -> Numbers {
-    Numbers {
-        first: Wide {
-            high: sample::long(data, row, MAKER + 2),
-            low: sample::long(data, row, MAKER),
-        },
-        second: Wide {
-            high: sample::long(data, row, MAKER + 6),
-            low: sample::long(data, row, MAKER + 4),
-        },
+impl Kind {
+    fn numbered(number: u32) -> Kind {
+        match number {
+            0 => Kind::Xoshiro256PlusPlus,
+            1 => Kind::MersenneTwister,
+            2 => Kind::Pcg32,
+            _ => Kind::Pcg64,
+        }
+    }
+
+    // A seed of 64 bits, or of 128, the low half first.
+    fn of_seed(self, low: u64, high: u64) -> Random {
+        match self {
+            Kind::Xoshiro256PlusPlus => making::from_u64_seed(low),
+            Kind::MersenneTwister => making::new_mersenne_twister_with_seed(halves(low).0),
+            Kind::Pcg32 => making::new_pcg32_with_seed(low),
+            Kind::Pcg64 => making::new_pcg64_with_seed(Wide { high, low }),
+        }
+    }
+
+    // The same with a stream.
+    fn of_stream(self, numbers: [u64; 4]) -> Random {
+        let [low, high, stream_low, stream_high] = numbers;
+        match self {
+            Kind::Pcg32 => making::new_pcg32_with_stream(low, stream_low),
+            _ => {
+                let stream = Wide {
+                    high: stream_high,
+                    low: stream_low,
+                };
+                making::new_pcg64_with_stream(Wide { high, low }, stream)
+            }
+        }
+    }
+
+    // Four numbers of 64 bits; a number of 128 bits has its high one first. The twister's table is that of a seed.
+    fn of_parts(self, numbers: [u64; 4]) -> Random {
+        let [a, b, c, d] = numbers;
+        match self {
+            Kind::Xoshiro256PlusPlus => {
+                making::from_xoshiro(Xoshiro256PlusPlus::from_parts(a, b, c, d))
+            }
+            Kind::MersenneTwister => {
+                let (seed, mti) = halves(a);
+                let mt = MersenneTwister::from_u32_seed(seed).mt;
+                making::from_mersenne_twister(MersenneTwister::from_parts(mt, mti))
+            }
+            Kind::Pcg32 => making::from_pcg32(Pcg32::from_parts(a, b)),
+            Kind::Pcg64 => {
+                let state = Wide { high: a, low: b };
+                let inc = Wide { high: c, low: d };
+                making::from_pcg64(Pcg64::from_parts(state, inc))
+            }
+        }
+    }
+
+    // How many bytes a seed has.
+    fn seed_length(self) -> usize
+        ensures { result ≤ 32 }
+    {
+        match self {
+            Kind::Pcg32 => 16,
+            _ => 32,
+        }
     }
 }
 
-fn of_seed(kind: u32, n: Numbers) -> Random {
-    let seed = n.first;
-    if kind == 0 {
-        return making::from_u64_seed(seed.low);
+// Numbers as their bytes.
+fn bytes_of(numbers: [u64; 4]) -> [u8; 32] {
+    let mut bytes = [0; 32];
+    for (eight, n) in bytes.as_chunks_mut().0.iter_mut().zip(numbers) {
+        *eight = n.to_le_bytes();
     }
-    if kind == 1 {
-        return making::new_mersenne_twister_with_seed(sample::low_half(seed.low));
-    }
-    if kind == 2 {
-        return making::new_pcg32_with_seed(seed.low);
-    }
-    making::new_pcg64_with_seed(seed)
-}
-
-fn of_stream(kind: u32, n: Numbers) -> Random {
-    let seed = n.first;
-    let stream = n.second;
-    if kind == 2 {
-        return making::new_pcg32_with_stream(seed.low, stream.low);
-    }
-    making::new_pcg64_with_stream(seed, stream)
-}
-
-// The twister's table is that of a seed.
-fn of_twister(seed: u32, mti: u32) -> Random {
-    let seeded = MersenneTwister::from_u32_seed(seed);
-    let mt = seeded.mt;
-    making::from_mersenne_twister(MersenneTwister::from_parts(mt, mti))
-}
-
-// Four numbers of 64 bits; a number of 128 bits has its high one first.
-fn of_parts(kind: u32, n: Numbers) -> Random {
-    let a = n.first;
-    let b = n.second;
-    if kind == 0 {
-        return making::from_xoshiro(Xoshiro256PlusPlus::from_parts(a.low, a.high, b.low, b.high));
-    }
-    if kind == 1 {
-        return of_twister(sample::low_half(a.low), sample::high_half(a.low));
-    }
-    if kind == 2 {
-        return making::from_pcg32(Pcg32::from_parts(a.low, a.high));
-    }
-    let state = Wide {
-        high: a.low,
-        low: a.high,
-    };
-    let inc = Wide {
-        high: b.low,
-        low: b.high,
-    };
-    making::from_pcg64(Pcg64::from_parts(state, inc))
-}
-
-// How many bytes a kind's seed has.
-fn seed_length(kind: u32) -> usize {
-    if kind == 2 { 16 } else { 32 }
+    bytes
 }
 
 // The kind's bytes of the eight words.
-fn of_bytes(kind: u32, data: &[u8], row: u32) -> Random {
-    let from = sample::place(row, MAKER);
-    let length = seed_length(kind);
-    let n = data.len();
-    if from <= n {
-        if length <= n - from {
-            let to = from + length;
-            let made = making::make(kind, &data[from..to]);
-            return made.generator;
-        }
-    }
-    making::zeros()
+fn of_bytes(row: &Row) -> Random {
+    let seed = bytes_of(row.numbers);
+    let length = Kind::numbered(row.kind).seed_length();
+    making::make(row.kind, &seed[..length]).generator
 }
 
-fn made(data: &[u8], row: u32) -> Random {
-    let kind = sample::word(data, row, 1);
-    let maker = sample::word(data, row, 2);
-    if maker == 0 {
-        return of_seed(kind, numbers_of(data, row));
+// What a row's maker number says.
+fn made(row: &Row) -> Random {
+    let kind = Kind::numbered(row.kind);
+    match row.maker {
+        0 => kind.of_seed(row.numbers[0], row.numbers[1]),
+        1 => kind.of_stream(row.numbers),
+        2 => of_bytes(row),
+        _ => kind.of_parts(row.numbers),
     }
-    if maker == 1 {
-        return of_stream(kind, numbers_of(data, row));
-    }
-    if maker == 2 {
-        return of_bytes(kind, data, row);
-    }
-    of_parts(kind, numbers_of(data, row))
 }
 
 // Skipped words are drawn as a long run draws them.
-pub(crate) fn generator(data: &[u8], row: u32) -> Random {
-    let run = runs::words(made(data, row), sample::word(data, row, 3));
-    run.next
+pub(crate) fn generator(row: &Row) -> Random {
+    runs::words(made(row), row.skipped).next
 }

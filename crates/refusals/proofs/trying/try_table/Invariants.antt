@@ -1,9 +1,0 @@
--- `try_table` is safe and ends: the place rises to the end of the text.
-use Rattle.std.proofs.Common.{◌-◌, ◌≤◌, length}
-use Rattle.refusals.proofs.trying.try_table.Given as goal
-
-abbrev pub invariant-loop-at : goal.invariant-loop-at
-invariant-loop-at g l = l.at ≤ length l.text
-
-abbrev pub decreases-loop-at : goal.decreases-loop-at
-decreases-loop-at g l = length l.text - l.at
