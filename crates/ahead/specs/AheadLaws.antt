@@ -7,7 +7,6 @@ use Rattle.std.proofs.Math.Seq.{drop-nil}
 use Rattle.std.proofs.lemmas.List.{set_at, get_or_at}
 use Rattle.words.specs.Draw.{Words}
 use Rattle.mersenne_twister.specs.Table as twister
-use Rattle.mersenne_twister.specs.declared.Drawn32 as twister_drawn
 use Rattle.mersenne_twister.specs.declared.MersenneTwister as twister_type
 use Rattle.mersenne_twister.specs.declared.table.Step.{Step}
 use Rattle.source.specs.declared.Drawn.{Drawn}
@@ -107,9 +106,9 @@ source_more {A} {y = y} more p e f h =
     put_more more (p f h) (ap (λ (d : Drawn ℕ A). d.word) e ∙ h.word y) (ap (λ (d : Drawn ℕ A). f d.next) e ∙ h.moved y)
 
 -- One word more of the twister, whose table is lent: the step leaves the word and the next position.
-pub twister_more : {m m' m'' : List ℕ} {p p' n : ℕ} {l l' : List ℕ} {s : Step} → n < length l
+pub twister_more : {m m' m'' : List ℕ} {p p' n : ℕ} {l l' : List ℕ} {s : Step ℕ} → n < length l
     → TwisterPut m p n l l' m' p' → twister.stepped s m'' ≡ twister.drawn_in m' p' → TwisterPut m p (n + 1) l (set l' n s.word) m'' s.mti
 unfolding word_of step
 twister_more more p e =
-    put_more more p (ap (λ (d : twister_drawn.Drawn32). d.word) e)
-    (ap (λ (d : twister_drawn.Drawn32). gen MersenneTwister d.next) e)
+    put_more more p (ap (λ (d : Drawn ℕ twister_type.MersenneTwister). d.word) e)
+    (ap (λ (d : Drawn ℕ twister_type.MersenneTwister). gen MersenneTwister d.next) e)

@@ -2,11 +2,10 @@
 use Rattle.std.specs.Prelude.{ℕ}
 use Rattle.bench_ffi.specs.Steps.{after, xor_of}
 use Rattle.mersenne_twister.specs.Table as twister
-use Rattle.mersenne_twister.specs.declared.Drawn32 as drawn_twister
+use Rattle.source.specs.declared.Drawn.{Drawn}
 use Rattle.mersenne_twister.specs.declared.MersenneTwister.{MersenneTwister}
 use Rattle.pcg.specs.Pcg32 as pcg32
 use Rattle.pcg.specs.Pcg64 as pcg64
-use Rattle.source.specs.declared.Drawn.{Drawn}
 use Rattle.pcg.specs.declared.pcg32.Pcg32.{Pcg32}
 use Rattle.pcg.specs.declared.pcg64.Pcg64.{Pcg64}
 use Rattle.xoshiro.specs.Generator as xoshiro
@@ -33,5 +32,5 @@ abbrev pub twister_word : MersenneTwister → ℕ
 twister_word g = (twister.drawn g).word
 
 -- the twister's words in a row
-abbrev pub twister_words : ℕ → MersenneTwister → drawn_twister.Drawn32
+abbrev pub twister_words : ℕ → MersenneTwister → Drawn ℕ MersenneTwister
 twister_words n g = record { word = xor_of twister_step twister_word n g; next = after twister_step n g }

@@ -3,7 +3,31 @@ ghost use Rattle.mersenne_twister.specs.Promises.{SeedInPromise, FromSeedInPromi
 ghost use Rattle.mersenne_twister.specs.Promises.{StoredPositionPromise, TwisterFromU32SeedPromise, TwisterRandPromise};
 ghost use Rattle.bench_ffi.specs.Promises.{TwisterWordsInPromise, TwisterWordsPromise};
 
-use mersenne_twister::{Drawn32, MersenneTwister, Step, Step64};
+use mersenne_twister::MersenneTwister;
+
+// A word of 32 bits and the position after it, as C holds them: a generic type can't cross to C.
+#[repr(C)]
+#[derive(Clone, Copy)]
+pub struct Step {
+    pub word: u32,
+    pub mti: u32,
+}
+
+// The same of 64 bits.
+#[repr(C)]
+#[derive(Clone, Copy)]
+pub struct Step64 {
+    pub word: u64,
+    pub mti: u32,
+}
+
+// A word and the generator after it, by value.
+#[repr(C)]
+#[derive(Clone, Copy)]
+pub struct Drawn32 {
+    pub word: u32,
+    pub next: MersenneTwister,
+}
 
 // The table seeded by a number; the position comes back.
 #[unsafe(no_mangle)]
@@ -24,17 +48,25 @@ pub extern "C" fn mt_from_seed(mt: &mut [u32; 624], seed: &[u8; 32]) -> u32
 // The next word, and the position after it.
 #[unsafe(no_mangle)]
 pub extern "C" fn mt_rand(mt: &mut [u32; 624], mti: u32) -> Step
-    ensures { RandInPromise mt.old mti result mt.new }
+    ensures { RandInPromise mt.old mti record { word = result.word; mti = result.mti } mt.new }
 {
-    mersenne_twister::rand_in(mt, mti)
+    let d = mersenne_twister::rand_in(mt, mti);
+    Step {
+        word: d.word,
+        mti: d.mti,
+    }
 }
 
 // The next two words as one of 64 bits, the high one first.
 #[unsafe(no_mangle)]
 pub extern "C" fn mt_next_u64(mt: &mut [u32; 624], mti: u32) -> Step64
-    ensures { NextU64InPromise mt.old mti result mt.new }
+    ensures { NextU64InPromise mt.old mti record { word = result.word; mti = result.mti } mt.new }
 {
-    mersenne_twister::next_u64_in(mt, mti)
+    let d = mersenne_twister::next_u64_in(mt, mti);
+    Step64 {
+        word: d.word,
+        mti: d.mti,
+    }
 }
 
 // The table renewed.
@@ -56,7 +88,7 @@ pub extern "C" fn mt_set_mti(value: u32) -> u32
 // The XOR of the next n words over a lent table, and the position after them.
 #[unsafe(no_mangle)]
 pub extern "C" fn mt_words(mt: &mut [u32; 624], mti: u32, n: u64) -> Step
-    ensures { TwisterWordsInPromise mt.old mti n result mt.new }
+    ensures { TwisterWordsInPromise mt.old mti n record { word = result.word; mti = result.mti } mt.new }
 {
     let mut at = mti;
     let mut word: u32 = 0;
@@ -81,15 +113,17 @@ pub extern "C" fn mt_value_seed(seed: u32) -> MersenneTwister
 // The next word, by value.
 #[unsafe(no_mangle)]
 pub extern "C" fn mt_value_rand(g: MersenneTwister) -> Drawn32
-    ensures { TwisterRandPromise g result }
+    ensures { TwisterRandPromise g record { word = result.word; next = result.next } }
 {
-    g.rand()
+    let d = g.rand();
+    let next = d.next;
+    Drawn32 { word: d.word, next }
 }
 
 // The XOR of the next n words, each through the call by value, and the generator after them.
 #[unsafe(no_mangle)]
 pub extern "C" fn mt_value_words(g: MersenneTwister, n: u64) -> Drawn32
-    ensures { TwisterWordsPromise g n result }
+    ensures { TwisterWordsPromise g n record { word = result.word; next = result.next } }
 {
     let mut next = g;
     let mut word: u32 = 0;

@@ -3,14 +3,14 @@
 use Rattle.std.specs.Prelude.{ℕ}
 use Rattle.random.specs.Generator.{later, words_of, xor_of}
 use Rattle.random.specs.declared.backend.Random.{Random}
-use Rattle.random.specs.declared.by_value.Word32.{Word32}
+use Rattle.source.specs.declared.Drawn.{Drawn}
 use Rattle.lent_state.specs.Answers.{Reply, gives}
 use Rattle.bench_lent.specs.Rows.{Total}
 use Rattle.bench_values.specs.declared.value_loops.RandomSums.{RandomSums}
 use Rattle.bench_values.specs.declared.value_loops.Xored.{Xored}
 
 -- n words XORed
-abbrev pub words_row : ℕ → Random → Word32
+abbrev pub words_row : ℕ → Random → Drawn ℕ Random
 words_row n g = record { word = xor_of (words_of g) n; next = later n g }
 
 -- what draws have come to, by value
@@ -24,5 +24,5 @@ abbrev pub xored : (value refusal : ℕ) → Xored
 xored v n = record { value = v; refusal = n }
 
 -- words XORed, handed out
-abbrev pub xored_of : Word32 → Reply Xored
+abbrev pub xored_of : Drawn ℕ Random → Reply Xored
 xored_of d = gives (xored d.word 0) d.next

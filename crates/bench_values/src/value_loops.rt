@@ -6,7 +6,8 @@ ghost use Rattle.bench_values.specs.Rows.{words_row, value_total};
 
 use bench_lent::Sums;
 use lent_state::{held_in, write};
-use random::{Random, Word32, engine_of, with_table};
+use random::{Random, engine_of, with_table};
+use source::Drawn;
 use words::refusal;
 
 // The XOR of words. Refused, it is 0.
@@ -18,7 +19,7 @@ pub struct Xored {
 }
 
 // The XOR of the next n words, and the generator after them.
-fn words_by_value(g: Random, n: u64) -> Word32
+fn words_by_value(g: Random, n: u64) -> Drawn<u32, Random>
     ensures { result ≡ words_row n g }
 {
     let mut next = g;
@@ -30,7 +31,7 @@ fn words_by_value(g: Random, n: u64) -> Word32
         next = d.next;
         i += 1;
     }
-    Word32 { word, next }
+    Drawn { word, next }
 }
 
 // The XOR of the next n words of 32 bits.

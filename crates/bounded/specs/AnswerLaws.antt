@@ -13,7 +13,7 @@ use Rattle.words.specs.OneOutcome.{zero_range_lem}
 use Rattle.words.proofs.OneOutcome.{bounded_only}
 use Rattle.random.specs.declared.backend.Random.{Random}
 use Rattle.random.specs.declared.engine.Engine.{Engine}
-use Rattle.random.specs.declared.engine.EngineWord.{EngineWord}
+use Rattle.source.specs.declared.Drawn.{Drawn}
 use Rattle.random.specs.Generator.{later, words_of, rand_of}
 use Rattle.random.specs.GeneratorLaws.{later_none}
 use Rattle.random.specs.Lent.{joined_with, joined_word}
@@ -94,7 +94,7 @@ draws_short {r} e m d pos q p = (
 )
 
 -- The first word, where it is good, is a try that is settled.
-pub draws_first : {r budget v : ℕ} {b : Bool} {w : EngineWord} {a : EngineAnswer} (e : Engine) (m m' : List ℕ) → 0 < budget
+pub draws_first : {r budget v : ℕ} {b : Bool} {w : Drawn ℕ Engine} {a : EngineAnswer} (e : Engine) (m m' : List ℕ) → 0 < budget
     → joined_word w m' ≡ rand_of (joined_with e m) → w.word < 2 ^ 32 → b ≡ good r w.word → b ≡ true → v ≡ quotient r w.word
     → a ≡ accepting v 1 w.next → Draws (joined_with e m) r budget a m'
 draws_first {r} {w = w} e m m' some d sized g t q p =

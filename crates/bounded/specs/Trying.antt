@@ -8,7 +8,7 @@ use Rattle.words.specs.DrawLoop.{Told, Searching}
 use Rattle.words.proofs.DrawLoop.{searching_start, searching_good, searching_bad, searching_out, told_zero}
 use Rattle.random.specs.declared.backend.Random.{Random}
 use Rattle.random.specs.Generator.{word_of, step, later, words_of, rand_of}
-use Rattle.random.specs.declared.by_value.Word32.{Word32}
+use Rattle.source.specs.declared.Drawn.{Drawn}
 use Rattle.random.specs.GeneratorLaws.{later_none, later_one, word_at}
 use Rattle.random.specs.declared.engine.Engine.{Engine}
 use Rattle.bounded.specs.declared.draw.Tried.{Tried}
@@ -40,22 +40,22 @@ trying_zero {g} e z = record { told = told_zero z; moved = sym (later_none g) }
 
 module _ {g : Random} {r budget used : ℕ} {cur : Random} (h : Trying g r budget used cur) where
   -- the next word drawn there, and the generator after it
-  word_here : {d : Word32} → d ≡ rand_of cur → d.word ≡ words_of g used
+  word_here : {d : Drawn ℕ Random} → d ≡ rand_of cur → d.word ≡ words_of g used
   unfolding rand_of
-  word_here e = ap (λ (d : Word32). d.word) e ∙ ap word_of h.moved ∙ word_at used g
+  word_here e = ap (λ (d : Drawn ℕ Random). d.word) e ∙ ap word_of h.moved ∙ word_at used g
 
-  next_here : {d : Word32} → d ≡ rand_of cur → d.next ≡ later (used + 1) g
+  next_here : {d : Drawn ℕ Random} → d ≡ rand_of cur → d.next ≡ later (used + 1) g
   unfolding rand_of
-  next_here e = ap (λ (d : Word32). d.next) e ∙ ap step h.moved ∙ sym (later_one used g)
+  next_here e = ap (λ (d : Drawn ℕ Random). d.next) e ∙ ap step h.moved ∙ sym (later_one used g)
 
   -- it is good and settles the draw,
-  pub trying_good : {d : Word32} {v : ℕ} {b : Bool} (e : Engine) → used < budget → d ≡ rand_of cur → b ≡ good r d.word → b ≡ true
+  pub trying_good : {d : Drawn ℕ Random} {v : ℕ} {b : Bool} (e : Engine) → used < budget → d ≡ rand_of cur → b ≡ good r d.word → b ≡ true
       → v ≡ quotient r d.word
       → TriedFrom g r budget (settled_at v (used + 1) e) d.next
   trying_good e u w b t q = record { told = searching_good h.searching u (word_here w) b t q; moved = next_here w }
 
   -- or the search goes on,
-  pub trying_bad : {d : Word32} {b : Bool} → used < budget → d ≡ rand_of cur → b ≡ good r d.word → b ≡ false
+  pub trying_bad : {d : Drawn ℕ Random} {b : Bool} → used < budget → d ≡ rand_of cur → b ≡ good r d.word → b ≡ false
       → Trying g r budget (used + 1) d.next
   trying_bad u w b t = record { searching = searching_bad h.searching u (word_here w) b t; moved = next_here w }
 

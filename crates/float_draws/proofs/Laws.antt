@@ -15,14 +15,12 @@ use Rattle.floats.specs.declared.intervals.Uniform.TheVariants.{Number, Refused}
 use Rattle.words.specs.Refusal as refusal
 use Rattle.random.specs.declared.backend.Random.{Random}
 use Rattle.random.specs.Generator.{word64_of, steps64, width_of, rand_of, u64_of}
-use Rattle.random.specs.declared.by_value.Word32.{Word32}
-use Rattle.random.specs.declared.by_value.Word64.{Word64}
+use Rattle.source.specs.declared.Drawn.{Drawn}
 use Rattle.random.specs.GeneratorLaws.{later_none}
-use Rattle.random.specs.Lent.{joined_with, joined_word, joined_word64}
+use Rattle.random.specs.Lent.{joined_with, joined_word}
 use Rattle.random.specs.declared.backend.Backend.{Backend}
 use Rattle.random.specs.declared.backend.Backend.TheVariants.{Xoshiro256PlusPlus, MersenneTwister, Pcg32, Pcg64}
-use Rattle.random.specs.declared.engine.EngineWord.{EngineWord}
-use Rattle.random.specs.declared.engine.EngineWord64.{EngineWord64}
+use Rattle.random.specs.declared.engine.Engine.{Engine}
 use Rattle.float_draws.specs.Coins.{flip_of, flip_from}
 use Rattle.float_draws.specs.Spreads.{spread_from}
 use Rattle.float_draws.specs.Units.{float_from, double_from}
@@ -32,16 +30,16 @@ use Rattle.float_draws.specs.declared.intervals.Spread.{Spread}
 -- ---- over a lent table: a word that was drawn, its engine and the table that it left
 
 -- the float of the word
-pub float_in : (g : Random) (r : EngineWord) (t : List ℕ) → joined_word r t ≡ rand_of g
+pub float_in : (g : Random) (r : Drawn ℕ Engine) (t : List ℕ) → joined_word r t ≡ rand_of g
     → record { value = float_of r.word; next = joined_with r.next t } ≡ float_from g
 unfolding float_from rand_of
-float_in g r t h = rw (ap (λ (d : Word32). d.word) h, ap (λ (d : Word32). d.next) h)
+float_in g r t h = rw (ap (λ (d : Drawn ℕ Random). d.word) h, ap (λ (d : Drawn ℕ Random). d.next) h)
 
 -- the double of the 64-bit word
-pub double_in : (g : Random) (r : EngineWord64) (t : List ℕ) → joined_word64 r t ≡ u64_of g
+pub double_in : (g : Random) (r : Drawn ℕ Engine) (t : List ℕ) → joined_word r t ≡ u64_of g
     → record { value = double_of r.word; next = joined_with r.next t } ≡ double_from g
 unfolding double_from u64_of
-double_in g r t h = rw (ap (λ (d : Word64). d.word) h, ap (λ (d : Word64). d.next) h)
+double_in g r t h = rw (ap (λ (d : Drawn ℕ Random). d.word) h, ap (λ (d : Drawn ℕ Random). d.next) h)
 
 -- the words of a 64-bit word, by the width of the kind's own
 pub steps_wide : (b : Backend) → width_of b ≡ 8 → 1 ≡ steps64 b
@@ -58,10 +56,10 @@ steps_narrow (Pcg64 p) e = absurd (e refl)
 
 module _ (g : Random) (p : Float) where
   -- the coin of the 64-bit word, where p is a chance
-  pub flip_taken : is_chance p ≡ true → (r : EngineWord64) (t : List ℕ) → joined_word64 r t ≡ u64_of g
+  pub flip_taken : is_chance p ≡ true → (r : Drawn ℕ Engine) (t : List ℕ) → joined_word r t ≡ u64_of g
       → flip_of (coin_of p r.word) (steps64 g.backend) (joined_with r.next t) ≡ flip_from g p
   unfolding flip_from u64_of
-  flip_taken c r t h = rw (c, ap (λ (d : Word64). d.word) h, ap (λ (d : Word64). d.next) h)
+  flip_taken c r t h = rw (c, ap (λ (d : Drawn ℕ Random). d.word) h, ap (λ (d : Drawn ℕ Random). d.next) h)
 
   -- and where it is none, nothing drawn
   pub flip_refused : is_chance p ≡ false → record { refusal = refusal.chance; value = false; used = 0; next = g } ≡ flip_from g p
@@ -70,11 +68,11 @@ module _ (g : Random) (p : Float) where
 
 module _ (g : Random) (i : Interval) where
   -- the number of the 64-bit word, where the interval is taken
-  pub spread_taken : interval_refusal i ≡ 0 → (r : EngineWord64) (t : List ℕ) → joined_word64 r t ≡ u64_of g
+  pub spread_taken : interval_refusal i ≡ 0 → (r : Drawn ℕ Engine) (t : List ℕ) → joined_word r t ≡ u64_of g
       → record { answer = uniform_of i r.word; next = joined_with r.next t } ≡ spread_from g i
   unfolding spread_from u64_of
   spread_taken z r t h =
-      rw (eq-eqb (interval_refusal i) 0 z, ap (λ (d : Word64). d.word) h, ap (λ (d : Word64). d.next) h)
+      rw (eq-eqb (interval_refusal i) 0 z, ap (λ (d : Drawn ℕ Random). d.word) h, ap (λ (d : Drawn ℕ Random). d.next) h)
 
   -- and where it is refused, nothing drawn
   pub spread_refused : (interval_refusal i ≡ 0 → ⊥) → record { answer = Refused (interval_refusal i); next = g } ≡ spread_from g i
@@ -83,10 +81,10 @@ module _ (g : Random) (i : Interval) where
 
 -- ---- `uniform` never gives -0.0: low is a float of the format, as every f64 is
 
-pub uniform_never_minus_zero : (g : Random) (i : Interval) {r : Spread} → UniformPromise g i r → T (fits binary64 i.low)
+pub uniform_never_minus_zero : (g : Random) (i : Interval) {r : Spread Random} → UniformPromise g i r → T (fits binary64 i.low)
     → (e : ℤ) → r.answer ≡ Number (fin true 0 e) → ⊥
 unfolding spread_from
-uniform_never_minus_zero g i p v e h = answer_never_minus_zero i (word64_of g) v e (sym (ap (λ (s : Spread). s.answer) p) ∙ h)
+uniform_never_minus_zero g i p v e h = answer_never_minus_zero i (word64_of g) v e (sym (ap (λ (s : Spread Random). s.answer) p) ∙ h)
 
 -- ---- a refusal leaves the generator as it was
 

@@ -8,20 +8,11 @@ use words::refusal;
 
 // Refusal 0 where it is answered; refused, the value is false, no word is used, and the generator is the one that came in.
 #[derive(Clone, Copy)]
-pub struct Flip {
+pub struct Flip<G> {
     pub refusal: u32,
     pub value: bool,
     pub used: u32,
-    pub next: Random,
-}
-
-// The same over a lent table.
-#[derive(Clone, Copy)]
-pub struct EngineFlip {
-    pub refusal: u32,
-    pub value: bool,
-    pub used: u32,
-    pub next: Engine,
+    pub next: G,
 }
 
 // How many words a 64-bit word takes.
@@ -32,7 +23,7 @@ fn steps(backend: Backend) -> u32
 }
 
 // Whether the double of the next 64-bit word is below p; where p is no chance, nothing is drawn.
-pub fn bool_in(e: Engine, mt: &mut [u32; 624], p: f64) -> EngineFlip
+pub fn bool_in(e: Engine, mt: &mut [u32; 624], p: f64) -> Flip<Engine>
     ensures { BoolInPromise e mt.old p result mt.new }
 {
     if floats::is_chance(p) {
@@ -41,14 +32,14 @@ pub fn bool_in(e: Engine, mt: &mut [u32; 624], p: f64) -> EngineFlip
         let d = random::next_u64(e, mt);
         let next = d.next;
         let coin = floats::chance(p, d.word);
-        return EngineFlip {
+        return Flip {
             refusal: coin.refusal,
             value: coin.value,
             used,
             next,
         };
     }
-    EngineFlip {
+    Flip {
         refusal: refusal::CHANCE,
         value: false,
         used: 0,
@@ -57,7 +48,7 @@ pub fn bool_in(e: Engine, mt: &mut [u32; 624], p: f64) -> EngineFlip
 }
 
 // The same by value.
-pub fn bool(g: Random, p: f64) -> Flip
+pub fn bool(g: Random, p: f64) -> Flip<Random>
     ensures { BoolPromise g p result }
 {
     let mut moved = g;

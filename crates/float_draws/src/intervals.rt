@@ -7,20 +7,13 @@ use words::refusal;
 
 // The number drawn or the refusal's number, and the generator after it; refused, the one that came in.
 #[derive(Clone, Copy)]
-pub struct Spread {
+pub struct Spread<G> {
     pub answer: Uniform,
-    pub next: Random,
-}
-
-// The same over a lent table.
-#[derive(Clone, Copy)]
-pub struct EngineSpread {
-    pub answer: Uniform,
-    pub next: Engine,
+    pub next: G,
 }
 
 // low + (high - low) * double of the next 64-bit word, each operation rounded once; refused, nothing is drawn.
-pub fn uniform_in(e: Engine, mt: &mut [u32; 624], i: Interval) -> EngineSpread
+pub fn uniform_in(e: Engine, mt: &mut [u32; 624], i: Interval) -> Spread<Engine>
     ensures { UniformInPromise e mt.old i result mt.new }
 {
     let refused = floats::interval_refusal(i);
@@ -28,16 +21,16 @@ pub fn uniform_in(e: Engine, mt: &mut [u32; 624], i: Interval) -> EngineSpread
         let d = random::next_u64(e, mt);
         let next = d.next;
         let answer = floats::uniform_of(i, d.word);
-        return EngineSpread { answer, next };
+        return Spread { answer, next };
     }
-    EngineSpread {
+    Spread {
         answer: Uniform::Refused(refused),
         next: e,
     }
 }
 
 // The same by value.
-pub fn uniform(g: Random, i: Interval) -> Spread
+pub fn uniform(g: Random, i: Interval) -> Spread<Random>
     ensures answer { UniformPromise g i result }
     ensures never_minus_zero { NeverMinusZero result.answer }
 {

@@ -6,8 +6,6 @@ mod coins;
 mod intervals;
 mod units;
 
-pub use coins::{EngineFlip, Flip, bool, bool_in};
-pub use intervals::{EngineSpread, Spread, uniform, uniform_in};
-pub use units::{
-    Drawn32, Drawn64, EngineDrawn32, EngineDrawn64, double, double_in, float, float_in,
-};
+pub use coins::{Flip, bool, bool_in};
+pub use intervals::{Spread, uniform, uniform_in};
+pub use units::{Fraction, double, double_in, float, float_in};

@@ -3,60 +3,39 @@ ghost use Rattle.float_draws.specs.Promises.{FloatInPromise, DoubleInPromise, Fl
 
 use random::{Engine, Random, engine_of, with_table};
 
-// A number, and the generator after it.
+// A number from 0 up to, and without, 1, and the generator after it: by value or as an engine.
 #[derive(Clone, Copy)]
-pub struct Drawn32 {
-    pub value: f32,
-    pub next: Random,
-}
-
-// The same of a double.
-#[derive(Clone, Copy)]
-pub struct Drawn64 {
-    pub value: f64,
-    pub next: Random,
-}
-
-// The same over a lent table.
-#[derive(Clone, Copy)]
-pub struct EngineDrawn32 {
-    pub value: f32,
-    pub next: Engine,
-}
-
-// The same of a double, over a lent table.
-#[derive(Clone, Copy)]
-pub struct EngineDrawn64 {
-    pub value: f64,
-    pub next: Engine,
+pub struct Fraction<F, G> {
+    pub value: F,
+    pub next: G,
 }
 
 // (word >> 8) / 2^24 of the next word.
-pub fn float_in(e: Engine, mt: &mut [u32; 624]) -> EngineDrawn32
+pub fn float_in(e: Engine, mt: &mut [u32; 624]) -> Fraction<f32, Engine>
     ensures { FloatInPromise e mt.old result mt.new }
 {
     let d = random::next_u32(e, mt);
     let next = d.next;
-    EngineDrawn32 {
+    Fraction {
         value: floats::float_of(d.word),
         next,
     }
 }
 
 // (word >> 11) / 2^53 of the next 64-bit word, by the kind's own order of halves.
-pub fn double_in(e: Engine, mt: &mut [u32; 624]) -> EngineDrawn64
+pub fn double_in(e: Engine, mt: &mut [u32; 624]) -> Fraction<f64, Engine>
     ensures { DoubleInPromise e mt.old result mt.new }
 {
     let d = random::next_u64(e, mt);
     let next = d.next;
-    EngineDrawn64 {
+    Fraction {
         value: floats::double_of(d.word),
         next,
     }
 }
 
 // The same by value.
-pub fn float(g: Random) -> Drawn32
+pub fn float(g: Random) -> Fraction<f32, Random>
     ensures { FloatPromise g result }
 {
     let mut moved = g;
@@ -64,14 +43,14 @@ pub fn float(g: Random) -> Drawn32
     let e = d.next;
     let mt = moved.twister.mt;
     let next = with_table(e, mt);
-    Drawn32 {
+    Fraction {
         value: d.value,
         next,
     }
 }
 
 // The same by value.
-pub fn double(g: Random) -> Drawn64
+pub fn double(g: Random) -> Fraction<f64, Random>
     ensures { DoublePromise g result }
 {
     let mut moved = g;
@@ -79,7 +58,7 @@ pub fn double(g: Random) -> Drawn64
     let e = d.next;
     let mt = moved.twister.mt;
     let next = with_table(e, mt);
-    Drawn64 {
+    Fraction {
         value: d.value,
         next,
     }

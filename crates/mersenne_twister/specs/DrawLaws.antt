@@ -3,7 +3,7 @@ use Rattle.std.specs.Prelude.{◌≡◌, ℕ, zero, suc, ◌+◌, ◌*◌, ◌^�
 use Rattle.std.proofs.Common.{ap, ◌∙◌, add-zero, add-suc, lt_of_not-le, lt-ltb, le-ltb}
 use Rattle.std.proofs.Math.Decide.{dec_le}
 use Rattle.mersenne_twister.specs.declared.MersenneTwister.{MersenneTwister}
-use Rattle.mersenne_twister.specs.declared.Drawn32.{Drawn32}
+use Rattle.source.specs.declared.Drawn.{Drawn}
 use Rattle.mersenne_twister.specs.Table.{renewed, drawn_at, drawn_in, drawn, drawn64, after, word_of}
 use Rattle.mersenne_twister.specs.TableLaws.{length_renewed}
 
@@ -45,7 +45,7 @@ unfolding drawn64 word_of after
 word64_is g = refl
 
 -- two draws, one after the other, make it
-pub drawn64_is : (g : MersenneTwister) (first second : Drawn32) (w : ℕ) → first ≡ drawn g → second ≡ drawn first.next
+pub drawn64_is : (g : MersenneTwister) (first second : Drawn ℕ MersenneTwister) (w : ℕ) → first ≡ drawn g → second ≡ drawn first.next
     → w ≡ first.word * 2 ^ 32 + second.word → record { word = w; next = second.next } ≡ drawn64 g
 unfolding drawn64
 drawn64_is g first second w p q e = rw (e, q, p)

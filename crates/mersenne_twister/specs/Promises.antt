@@ -1,13 +1,11 @@
 -- What each public call promises of its answer: the contracts of src/, by name.
 use Rattle.std.specs.Prelude.{◌≡◌, ℕ, List}
 use Rattle.mersenne_twister.specs.Sequence.{temper}
-use Rattle.mersenne_twister.specs.Table.{drawn, drawn64, drawn64_in, drawn_in, folded, held, seeded, seeded_in, stepped, stepped64}
+use Rattle.mersenne_twister.specs.Table.{drawn, drawn64, drawn64_in, drawn_in, folded, held, seeded, seeded_in, stepped}
 use Rattle.mersenne_twister.specs.Table.{stored_position, twisted, twisted_in}
-use Rattle.mersenne_twister.specs.declared.Drawn32.{Drawn32}
-use Rattle.mersenne_twister.specs.declared.Drawn64.{Drawn64}
+use Rattle.source.specs.declared.Drawn.{Drawn}
 use Rattle.mersenne_twister.specs.declared.MersenneTwister.{MersenneTwister}
 use Rattle.mersenne_twister.specs.declared.table.Step.{Step}
-use Rattle.mersenne_twister.specs.declared.table.Step64.{Step64}
 
 -- `MersenneTwister::from_u32_seed`: the generator of the seed
 abbrev pub TwisterFromU32SeedPromise : ℕ → MersenneTwister → Type 0
@@ -26,11 +24,11 @@ abbrev pub TwisterFromPartsPromise : List ℕ → ℕ → MersenneTwister → Ty
 TwisterFromPartsPromise mt mti r = r ≡ held mt mti
 
 -- `MersenneTwister::rand`: one draw
-abbrev pub TwisterRandPromise : MersenneTwister → Drawn32 → Type 0
+abbrev pub TwisterRandPromise : MersenneTwister → Drawn ℕ MersenneTwister → Type 0
 TwisterRandPromise self r = r ≡ drawn self
 
 -- `MersenneTwister::next_u64`: two draws as one word, the high word first
-abbrev pub TwisterNextU64Promise : MersenneTwister → Drawn64 → Type 0
+abbrev pub TwisterNextU64Promise : MersenneTwister → Drawn ℕ MersenneTwister → Type 0
 TwisterNextU64Promise self r = r ≡ drawn64 self
 
 -- `MersenneTwister::twist`: the table twisted, the position 0
@@ -62,12 +60,12 @@ abbrev pub TwistInPromise : List ℕ → ℕ → List ℕ → Type 0
 TwistInPromise mt r mt' = held mt' r ≡ twisted_in mt
 
 -- `rand_in`: the answer and the lent table are what a draw gives and leaves
-abbrev pub RandInPromise : List ℕ → ℕ → Step → List ℕ → Type 0
+abbrev pub RandInPromise : List ℕ → ℕ → Step ℕ → List ℕ → Type 0
 RandInPromise mt mti r mt' = stepped r mt' ≡ drawn_in mt mti
 
 -- `next_u64_in`: the same of two words as one
-abbrev pub NextU64InPromise : List ℕ → ℕ → Step64 → List ℕ → Type 0
-NextU64InPromise mt mti r mt' = stepped64 r mt' ≡ drawn64_in mt mti
+abbrev pub NextU64InPromise : List ℕ → ℕ → Step ℕ → List ℕ → Type 0
+NextU64InPromise mt mti r mt' = stepped r mt' ≡ drawn64_in mt mti
 
 -- `temper_word`: the paper's tempering
 abbrev pub TemperWordPromise : ℕ → ℕ → Type 0

@@ -6,23 +6,21 @@ use Rattle.mersenne_twister.specs.Promises.{StoredPositionPromise, TemperWordPro
 use Rattle.mersenne_twister.specs.Promises.{TwisterFromSeedPromise, TwisterFromU32SeedPromise, TwisterMtiPromise}
 use Rattle.mersenne_twister.specs.Promises.{TwisterNextU64Promise, TwisterRandPromise, TwisterSeedPromise, TwisterSetMtiPromise}
 use Rattle.mersenne_twister.specs.Promises.{TwisterTwistPromise}
-use Rattle.mersenne_twister.specs.Table.{held, stepped, stepped64}
-use Rattle.mersenne_twister.specs.declared.Drawn32.{Drawn32}
-use Rattle.mersenne_twister.specs.declared.Drawn64.{Drawn64}
+use Rattle.mersenne_twister.specs.Table.{held, stepped}
+use Rattle.source.specs.declared.Drawn.{Drawn}
 use Rattle.mersenne_twister.specs.declared.MersenneTwister.{MersenneTwister}
 use Rattle.mersenne_twister.specs.declared.table.Step.{Step}
-use Rattle.mersenne_twister.specs.declared.table.Step64.{Step64}
 
 -- ---- what a call over a lent table tells is its answer and that table
 
 held_apart : {m n : List ℕ} {i j : ℕ} → held m i ≡ held n j → (i ≡ j) × (m ≡ n)
 held_apart h = (ap (λ (x : MersenneTwister). x.mti) h, ap (λ (x : MersenneTwister). x.mt) h)
 
-pub step_apart : {r s : Step} {m n : List ℕ} → stepped r m ≡ stepped s n → (r ≡ s) × (m ≡ n)
-step_apart h = (ap (λ (x : Drawn32). record { word = x.word; mti = x.next.mti }) h, ap (λ (x : Drawn32). x.next.mt) h)
-
-step64_apart : {r s : Step64} {m n : List ℕ} → stepped64 r m ≡ stepped64 s n → (r ≡ s) × (m ≡ n)
-step64_apart h = (ap (λ (x : Drawn64). record { word = x.word; mti = x.next.mti }) h, ap (λ (x : Drawn64). x.next.mt) h)
+pub step_apart : {r s : Step ℕ} {m n : List ℕ} → stepped r m ≡ stepped s n → (r ≡ s) × (m ≡ n)
+step_apart h = (ap answer h, ap (λ (x : Drawn ℕ MersenneTwister). x.next.mt) h)
+  where
+    answer : Drawn ℕ MersenneTwister → Step ℕ
+    answer x = record { word = x.word; mti = x.next.mti }
 
 -- ---- one answer
 
@@ -40,10 +38,12 @@ pub one_twister_from_parts : (mt : List ℕ) (mti : ℕ) {a b : MersenneTwister}
     → TwisterFromPartsPromise mt mti a → TwisterFromPartsPromise mt mti b → a ≡ b
 one_twister_from_parts mt mti p q = p ∙ sym q
 
-pub one_twister_rand : (self : MersenneTwister) {a b : Drawn32} → TwisterRandPromise self a → TwisterRandPromise self b → a ≡ b
+pub one_twister_rand : (self : MersenneTwister) {a b : Drawn ℕ MersenneTwister}
+    → TwisterRandPromise self a → TwisterRandPromise self b → a ≡ b
 one_twister_rand self p q = p ∙ sym q
 
-pub one_twister_next_u64 : (self : MersenneTwister) {a b : Drawn64} → TwisterNextU64Promise self a → TwisterNextU64Promise self b → a ≡ b
+pub one_twister_next_u64 : (self : MersenneTwister) {a b : Drawn ℕ MersenneTwister}
+    → TwisterNextU64Promise self a → TwisterNextU64Promise self b → a ≡ b
 one_twister_next_u64 self p q = p ∙ sym q
 
 pub one_twister_twist : (self : MersenneTwister) {a b : MersenneTwister} → TwisterTwistPromise self a → TwisterTwistPromise self b → a ≡ b
@@ -70,13 +70,13 @@ one_from_seed_in mt seed p q = held_apart (p ∙ sym q)
 pub one_twist_in : (mt : List ℕ) {a b : ℕ} {mt₁ mt₂ : List ℕ} → TwistInPromise mt a mt₁ → TwistInPromise mt b mt₂ → (a ≡ b) × (mt₁ ≡ mt₂)
 one_twist_in mt p q = held_apart (p ∙ sym q)
 
-pub one_rand_in : (mt : List ℕ) (mti : ℕ) {a b : Step} {mt₁ mt₂ : List ℕ}
+pub one_rand_in : (mt : List ℕ) (mti : ℕ) {a b : Step ℕ} {mt₁ mt₂ : List ℕ}
     → RandInPromise mt mti a mt₁ → RandInPromise mt mti b mt₂ → (a ≡ b) × (mt₁ ≡ mt₂)
 one_rand_in mt mti p q = step_apart (p ∙ sym q)
 
-pub one_next_u64_in : (mt : List ℕ) (mti : ℕ) {a b : Step64} {mt₁ mt₂ : List ℕ}
+pub one_next_u64_in : (mt : List ℕ) (mti : ℕ) {a b : Step ℕ} {mt₁ mt₂ : List ℕ}
     → NextU64InPromise mt mti a mt₁ → NextU64InPromise mt mti b mt₂ → (a ≡ b) × (mt₁ ≡ mt₂)
-one_next_u64_in mt mti p q = step64_apart (p ∙ sym q)
+one_next_u64_in mt mti p q = step_apart (p ∙ sym q)
 
 pub one_temper_word : (x : ℕ) {a b : ℕ} → TemperWordPromise x a → TemperWordPromise x b → a ≡ b
 one_temper_word x p q = p ∙ sym q

@@ -5,7 +5,7 @@ use Rattle.std.proofs.Common.{arith}
 use Rattle.std.proofs.Math.Decide.{dec_le}
 use Rattle.std.proofs.Math.Nat.{min-eq_left, min-eq_right}
 use Rattle.mersenne_twister.specs.declared.MersenneTwister.{MersenneTwister}
-use Rattle.mersenne_twister.specs.declared.Drawn32.{Drawn32}
+use Rattle.source.specs.declared.Drawn.{Drawn}
 use Rattle.mersenne_twister.specs.Sequence.{follow, Follows, StartsWith, sequence, terms, temper, seed_word}
 use Rattle.mersenne_twister.specs.SequenceLaws.{sequence_first, follows, follows_from, length_terms, terms_at, terms_from}
 use Rattle.mersenne_twister.specs.SequenceLaws.{terms_start, start_terms}
@@ -43,7 +43,7 @@ stand f b p =
 
 stands_word : {x : ℕ → ℕ} {q : ℕ} {g : MersenneTwister} → Stands x q g → (drawn g).word ≡ temper (x q)
 stands_word {x} s =
-    ap (λ (d : Drawn32). d.word) s.is ∙ ap temper (terms_at x s.base 624 s.place s.low ∙ ap x s.there)
+    ap (λ (d : Drawn ℕ MersenneTwister). d.word) s.is ∙ ap temper (terms_at x s.base 624 s.place s.low ∙ ap x s.there)
 
 stands_next : {x : ℕ → ℕ} {q : ℕ} {g : MersenneTwister} → Follows x → Stands x q g → Stands x (q + 1) (drawn g).next
 stands_next {q = q} f s =
@@ -99,8 +99,8 @@ from_next g k = ap (λ (n : ℕ). after n g) (sym (one-add k)) ∙ after_add 1 k
 -- word after word
 pub stored_words : (t : List ℕ) (p k : ℕ) → word_of (held t (stored_position p)) k ≡ word_of (held t p) k
 unfolding word_of after
-stored_words t p zero = ap (λ (d : Drawn32). d.word) (drawn_stored t p)
+stored_words t p zero = ap (λ (d : Drawn ℕ MersenneTwister). d.word) (drawn_stored t p)
 stored_words t p (suc k) =
     let same : after k (drawn (held t (stored_position p))).next ≡ after k (drawn (held t p)).next
-    = ap (λ (d : Drawn32). after k d.next) (drawn_stored t p) in
+    = ap (λ (d : Drawn ℕ MersenneTwister). after k d.next) (drawn_stored t p) in
     ap (λ (h : MersenneTwister). (drawn h).word) (from_next (held t (stored_position p)) k ∙ same ∙ sym (from_next (held t p) k))

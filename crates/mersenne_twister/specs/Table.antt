@@ -1,12 +1,10 @@
 -- MT19937 over a table of 624 words and a position in it, as the authors' mt19937ar.c keeps them (`mt`, `mti`): seeding, the twist in
 -- place, draws.
 use Rattle.std.specs.Prelude.{ℕ, zero, suc, ◌+◌, ◌*◌, ◌%◌, ◌^◌, min, List, bit_xor, nat_lt, slice_index, slice_set}
+use Rattle.source.specs.declared.Drawn.{Drawn}
 use Rattle.wrapping.specs.Bytes.{little}
 use Rattle.mersenne_twister.specs.declared.MersenneTwister.{MersenneTwister}
-use Rattle.mersenne_twister.specs.declared.Drawn32.{Drawn32}
-use Rattle.mersenne_twister.specs.declared.Drawn64.{Drawn64}
 use Rattle.mersenne_twister.specs.declared.table.Step.{Step}
-use Rattle.mersenne_twister.specs.declared.table.Step64.{Step64}
 use Rattle.mersenne_twister.specs.Sequence.{pick, follow, terms, seed_word, temper}
 
 -- a table and a position, held together
@@ -72,32 +70,28 @@ twisted g = twisted_in g.mt
 -- ---- a draw (`genrand_int32`)
 
 -- the entry p is tempered, and the position moves on
-abbrev pub drawn_at : (t : List ℕ) (p : ℕ) → Drawn32
+abbrev pub drawn_at : (t : List ℕ) (p : ℕ) → Drawn ℕ MersenneTwister
 drawn_at t p = record { word = temper (slice_index t p); next = held t (p + 1) }
 
 -- at position 624 or above the table is twisted first
-unfoldable pub drawn_in : (t : List ℕ) (p : ℕ) → Drawn32
+unfoldable pub drawn_in : (t : List ℕ) (p : ℕ) → Drawn ℕ MersenneTwister
 drawn_in t p = pick (nat_lt p 624) (drawn_at t p) (drawn_at (renewed 624 t) 0)
 
 -- a draw from a generator
-abbrev pub drawn : (g : MersenneTwister) → Drawn32
+abbrev pub drawn : (g : MersenneTwister) → Drawn ℕ MersenneTwister
 drawn g = drawn_in g.mt g.mti
 
 -- two words as one, the high word first
-unfoldable pub drawn64 : (g : MersenneTwister) → Drawn64
+unfoldable pub drawn64 : (g : MersenneTwister) → Drawn ℕ MersenneTwister
 drawn64 g = record { word = (drawn g).word * 2 ^ 32 + (drawn (drawn g).next).word; next = (drawn (drawn g).next).next }
 
 -- the same of a table and a position
-abbrev pub drawn64_in : (t : List ℕ) (p : ℕ) → Drawn64
+abbrev pub drawn64_in : (t : List ℕ) (p : ℕ) → Drawn ℕ MersenneTwister
 drawn64_in t p = drawn64 (held t p)
 
 -- what a draw over a lent table answers, with the table that it leaves
-abbrev pub stepped : (r : Step) (t : List ℕ) → Drawn32
+abbrev pub stepped : (r : Step ℕ) (t : List ℕ) → Drawn ℕ MersenneTwister
 stepped r t = record { word = r.word; next = held t r.mti }
-
--- and a draw of two words as one
-abbrev pub stepped64 : (r : Step64) (t : List ℕ) → Drawn64
-stepped64 r t = record { word = r.word; next = held t r.mti }
 
 -- ---- draws in a row
 

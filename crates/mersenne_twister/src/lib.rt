@@ -8,12 +8,12 @@ mod word;
 ghost use Rattle.mersenne_twister.specs.Promises.{TwisterFromU32SeedPromise, TwisterFromSeedPromise, TwisterSeedPromise};
 ghost use Rattle.mersenne_twister.specs.Promises.{TwisterFromPartsPromise, TwisterRandPromise, TwisterNextU64Promise};
 ghost use Rattle.mersenne_twister.specs.Promises.{TwisterTwistPromise, TwisterMtiPromise, TwisterSetMtiPromise};
+ghost use Rattle.mersenne_twister.specs.Table.{drawn, drawn64};
 
 pub use constants::END;
+use source::{Drawn, Source};
 use table::fold_seed;
-pub use table::{
-    Step, Step64, from_seed_in, next_u64_in, rand_in, seed_in, stored_position, twist_in,
-};
+pub use table::{Step, from_seed_in, next_u64_in, rand_in, seed_in, stored_position, twist_in};
 pub use word::temper_word;
 
 // The table of 624 words and the position in it, `mt` and `mti` in mt19937ar.c.
@@ -22,22 +22,6 @@ pub use word::temper_word;
 pub struct MersenneTwister {
     pub mt: [u32; 624],
     pub mti: u32,
-}
-
-// A word, and the generator after it.
-#[repr(C)]
-#[derive(Clone, Copy)]
-pub struct Drawn32 {
-    pub word: u32,
-    pub next: MersenneTwister,
-}
-
-// Two words as one, and the generator after them.
-#[repr(C)]
-#[derive(Clone, Copy)]
-pub struct Drawn64 {
-    pub word: u64,
-    pub next: MersenneTwister,
 }
 
 impl MersenneTwister {
@@ -73,26 +57,26 @@ impl MersenneTwister {
     }
 
     // The next word.
-    pub fn rand(mut self) -> Drawn32
+    pub fn rand(mut self) -> Drawn<u32, MersenneTwister>
         ensures { TwisterRandPromise self result }
     {
         let mti = self.mti;
         let step = rand_in(&mut self.mt, mti);
         self.mti = step.mti;
-        Drawn32 {
+        Drawn {
             word: step.word,
             next: self,
         }
     }
 
     // The next two words as one, the high word first.
-    pub fn next_u64(mut self) -> Drawn64
+    pub fn next_u64(mut self) -> Drawn<u64, MersenneTwister>
         ensures { TwisterNextU64Promise self result }
     {
         let mti = self.mti;
         let step = next_u64_in(&mut self.mt, mti);
         self.mti = step.mti;
-        Drawn64 {
+        Drawn {
             word: step.word,
             next: self,
         }
@@ -119,5 +103,19 @@ impl MersenneTwister {
     {
         self.mti = stored_position(value);
         self
+    }
+}
+
+impl Source for MersenneTwister {
+    ghost drawn = { drawn };
+
+    ghost drawn64 = { drawn64 };
+
+    fn next_u32(self) -> Drawn<u32, MersenneTwister> {
+        self.rand()
+    }
+
+    fn next_u64(self) -> Drawn<u64, MersenneTwister> {
+        MersenneTwister::next_u64(self)
     }
 }

@@ -8,18 +8,9 @@ use super::constants::{BACK, END, LAST, M, TWICE_BACK};
 use super::word::{follow_word, seed_step, temper_word};
 
 // What a draw answers beside the table: the word, and the position after it.
-#[repr(C)]
 #[derive(Clone, Copy)]
-pub struct Step {
-    pub word: u32,
-    pub mti: u32,
-}
-
-// The same of a draw of two words as one.
-#[repr(C)]
-#[derive(Clone, Copy)]
-pub struct Step64 {
-    pub word: u64,
+pub struct Step<W> {
+    pub word: W,
     pub mti: u32,
 }
 
@@ -103,7 +94,7 @@ pub fn twist_in(mt: &mut [u32; 624]) -> u32
 
 // The next word. At position 624 or above the table is twisted first.
 #[tactic(auto, using(crate::proofs::DrawFacts::draw_twisted, crate::specs::DrawLaws::in_low))]
-pub fn rand_in(mt: &mut [u32; 624], mti: u32) -> Step
+pub fn rand_in(mt: &mut [u32; 624], mti: u32) -> Step<u32>
     ensures { RandInPromise mt.old mti result mt.new }
 {
     let mut at = mti;
@@ -118,12 +109,12 @@ pub fn rand_in(mt: &mut [u32; 624], mti: u32) -> Step
 }
 
 // The next two words as one, the high word first.
-pub fn next_u64_in(mt: &mut [u32; 624], mti: u32) -> Step64
+pub fn next_u64_in(mt: &mut [u32; 624], mti: u32) -> Step<u64>
     ensures { NextU64InPromise mt.old mti result mt.new }
 {
     let high = rand_in(mt, mti);
     let low = rand_in(mt, high.mti);
-    Step64 {
+    Step {
         word: ((high.word as u64) << 32) | (low.word as u64),
         mti: low.mti,
     }

@@ -9,8 +9,6 @@ use Rattle.random.specs.declared.backend.Backend.TheVariants.{Xoshiro256PlusPlus
 use Rattle.random.specs.declared.backend.Random.{Random}
 use Rattle.random.specs.Generator.{gen, step, step_by, width_of, own_word, word_of, word_by, word64_of, word64_by, steps64}
 use Rattle.random.specs.Generator.{later, words_of, rand_of, u64_of, own_of}
-use Rattle.random.specs.declared.by_value.Word32.{Word32}
-use Rattle.random.specs.declared.by_value.Word64.{Word64}
 
 -- ---- advancing
 
@@ -57,12 +55,8 @@ width_positive (Pcg64 p) = omega arith
 
 -- ---- a word of the kind's own width is its word of 64 bits or of 32
 
--- a word of 32 bits in the place of one of 64
-abbrev pub widened : Word32 → Word64
-widened d = record { word = d.word; next = d.next }
-
 own_by_lem : (b : Backend) (t : twister_type.MersenneTwister)
-    → (width_of b ≡ 8 → u64_of (gen b t) ≡ own_of (gen b t)) × ((width_of b ≡ 8 → ⊥) → widened (rand_of (gen b t)) ≡ own_of (gen b t))
+    → (width_of b ≡ 8 → u64_of (gen b t) ≡ own_of (gen b t)) × ((width_of b ≡ 8 → ⊥) → rand_of (gen b t) ≡ own_of (gen b t))
 unfolding rand_of u64_of own_of own_word word_of word64_of later step
 own_by_lem (Xoshiro256PlusPlus x) t = (λ e. refl, λ e. absurd (e refl))
 own_by_lem MersenneTwister t = (λ e. absurd (omega arith), λ e. refl)
@@ -72,7 +66,7 @@ own_by_lem (Pcg64 p) t = (λ e. refl, λ e. absurd (e refl))
 pub own_wide : (g : Random) → width_of g.backend ≡ 8 → u64_of g ≡ own_of g
 own_wide g = (own_by_lem g.backend g.twister).0
 
-pub own_narrow : (g : Random) → (width_of g.backend ≡ 8 → ⊥) → widened (rand_of g) ≡ own_of g
+pub own_narrow : (g : Random) → (width_of g.backend ≡ 8 → ⊥) → rand_of g ≡ own_of g
 own_narrow g = (own_by_lem g.backend g.twister).1
 
 -- ---- a word of 64 bits in terms of words of 32

@@ -3,7 +3,7 @@ use Rattle.std.specs.Prelude.{◌≡◌, refl, Bool, true, List, ℕ, ◌+◌, �
 use Rattle.std.proofs.Common.{sym, ◌∙◌, ap, lt_of_not-le, arith, lt-ltb, le-ltb, ltb-true}
 use Rattle.std.proofs.Math.Decide.{dec_le}
 use Rattle.mersenne_twister.specs.declared.MersenneTwister as twister_type
-use Rattle.mersenne_twister.specs.declared.Drawn32.{Drawn32}
+use Rattle.source.specs.declared.Drawn.{Drawn}
 use Rattle.mersenne_twister.specs.DrawLaws.{in_low, in_high}
 use Rattle.mersenne_twister.specs.Sequence.{temper}
 use Rattle.mersenne_twister.specs.Table.{held, drawn, twisted}
@@ -11,7 +11,6 @@ use Rattle.random.specs.declared.backend.Backend.{Backend}
 use Rattle.random.specs.declared.backend.Backend.TheVariants.{Xoshiro256PlusPlus, MersenneTwister, Pcg32, Pcg64}
 use Rattle.random.specs.declared.backend.Random.{Random}
 use Rattle.random.specs.Generator.{gen, step, word_of, rand_of}
-use Rattle.random.specs.declared.by_value.Word32.{Word32}
 use Rattle.random.specs.declared.engine.Engine.{Engine}
 use Rattle.random.specs.Lent.{joined_with}
 use Rattle.random.specs.Ready.{ready_by, is_ready, surely_ready, made_ready, drawn_ready}
@@ -49,7 +48,7 @@ ready_stays g h = ap drawn_ready (made_already g h) ∙ drawn_ready_lem g h
 -- ---- the twister's words off its table: below its end, and at it
 
 -- the twister's draw, as the facade's
-abbrev as_word : Drawn32 → Word32
+abbrev as_word : Drawn ℕ twister_type.MersenneTwister → Drawn ℕ Random
 as_word d = record { word = d.word; next = gen MersenneTwister d.next }
 
 pub twister_ready : (t : List ℕ) (p w : ℕ) → p < 624 → w ≡ temper (get_or t p 0)

@@ -11,7 +11,7 @@ use Rattle.random.specs.declared.backend.Backend.TheVariants.{Xoshiro256PlusPlus
 use Rattle.random.specs.declared.backend.Random.{Random}
 use Rattle.random.specs.Generator.{step_by, step, later, rand_of}
 use Rattle.random.specs.Promises.{RandPromise}
-use Rattle.random.specs.declared.by_value.Word32.{Word32}
+use Rattle.source.specs.declared.Drawn.{Drawn}
 
 -- the small words of each kind
 abbrev pub SizedSmall : Backend → Type 0
@@ -50,6 +50,6 @@ pub record StaysSized (came next : Random) : Type 0 where
   pub after : Sized next
 
 -- so it is of `rand`, by its promise
-pub rand_sized : {r : Word32} (g : Random) → RandPromise g r → Sized g → StaysSized g r.next
+pub rand_sized : {r : Drawn ℕ Random} (g : Random) → RandPromise g r → Sized g → StaysSized g r.next
 unfolding rand_of
 rand_sized g p h = record { before = h; after = rw p (sized_step g h) }

@@ -6,15 +6,14 @@ use Rattle.random.specs.Generator.{step, word_of, later, words_of, rand_of, u64_
 use Rattle.random.specs.GeneratorLaws.{later_none, later_one, word_at}
 use Rattle.signed.specs.Signed.{signed_of}
 use Rattle.random.specs.declared.backend.Random.{Random}
-use Rattle.random.specs.declared.by_value.Word32.{Word32}
-use Rattle.random.specs.declared.by_value.Word64.{Word64}
+use Rattle.source.specs.declared.Drawn.{Drawn}
 
 -- the next word is the word at place 0 of the sequence
 pub rand_first : (g : Random) → (rand_of g).word ≡ words_of g 0
 unfolding rand_of
 rand_first g = ap word_of (sym (later_none _)) ∙ word_at 0 _
 
-pub i64_is : (g : Random) (w : Word64) → w ≡ u64_of g → record { word = signed_of 64 w.word; next = w.next } ≡ i64_of g
+pub i64_is : (g : Random) (w : Drawn ℕ Random) → w ≡ u64_of g → record { word = signed_of 64 w.word; next = w.next } ≡ i64_of g
 unfolding u64_of i64_of
 i64_is g w e = rw e
 
@@ -29,12 +28,12 @@ pub xored_none : (g : Random) → Xored g 0 0 g
 unfolding xor_of
 xored_none g = record { value = refl; moved = sym (later_none g) }
 
-pub xored_more : (g : Random) (n x : ℕ) (cur : Random) (d : Word32) → Xored g n x cur → d ≡ rand_of cur
+pub xored_more : (g : Random) (n x : ℕ) (cur : Random) (d : Drawn ℕ Random) → Xored g n x cur → d ≡ rand_of cur
     → Xored g (n + 1) (bit_xor x d.word) d.next
 unfolding xor_of rand_of
 xored_more g n x cur d h e =
-    let w : d.word ≡ words_of g n = ap (λ (a : Word32). a.word) e ∙ ap word_of h.moved ∙ word_at n g in
+    let w : d.word ≡ words_of g n = ap (λ (a : Drawn ℕ Random). a.word) e ∙ ap word_of h.moved ∙ word_at n g in
     record {
       value = rw (add-one, h.value, w);
-      moved = ap (λ (a : Word32). a.next) e ∙ ap step h.moved ∙ sym (later_one n g);
+      moved = ap (λ (a : Drawn ℕ Random). a.next) e ∙ ap step h.moved ∙ sym (later_one n g);
     }

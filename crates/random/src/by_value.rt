@@ -1,32 +1,13 @@
 // Words by value: of 32 bits, of 64, and 32 words XORed. Each call hands back the next generator.
 ghost use Rattle.random.specs.Promises.{EngineOfPromise, WithTablePromise, RandPromise, U64Promise, I64Promise, PseudoPromise};
+ghost use Rattle.random.specs.Generator.{rand_of, u64_of};
 ghost use Rattle.random.specs.SizedParts.{StaysSized};
 
 use crate::backend::Random;
 use crate::engine::Engine;
 use crate::lent;
 use mersenne_twister::MersenneTwister;
-
-// A word of 32 bits, and the generator after it.
-#[derive(Clone, Copy)]
-pub struct Word32 {
-    pub word: u32,
-    pub next: Random,
-}
-
-// A word of 64 bits, and the generator after it.
-#[derive(Clone, Copy)]
-pub struct Word64 {
-    pub word: u64,
-    pub next: Random,
-}
-
-// A word of 64 bits read as signed, and the generator after it.
-#[derive(Clone, Copy)]
-pub struct Signed64 {
-    pub word: i64,
-    pub next: Random,
-}
+use source::{Drawn, Source};
 
 // All of a generator but its table.
 pub fn engine_of(g: Random) -> Engine
@@ -49,7 +30,7 @@ pub fn with_table(e: Engine, mt: [u32; 624]) -> Random
 }
 
 // The next word.
-pub fn rand(g: Random) -> Word32
+pub fn rand(g: Random) -> Drawn<u32, Random>
     ensures answer { RandPromise g result }
     ensures sized { StaysSized g result.next }
 {
@@ -58,11 +39,11 @@ pub fn rand(g: Random) -> Word32
     let e = d.next;
     let mt = moved.twister.mt;
     let next = with_table(e, mt);
-    Word32 { word: d.word, next }
+    Drawn { word: d.word, next }
 }
 
 // The next 64-bit word, by the kind's own order of halves.
-pub fn u64(g: Random) -> Word64
+pub fn u64(g: Random) -> Drawn<u64, Random>
     ensures { U64Promise g result }
 {
     let mut moved = g;
@@ -70,21 +51,21 @@ pub fn u64(g: Random) -> Word64
     let e = d.next;
     let mt = moved.twister.mt;
     let next = with_table(e, mt);
-    Word64 { word: d.word, next }
+    Drawn { word: d.word, next }
 }
 
 // The next 64-bit word, read as signed.
-pub fn i64(g: Random) -> Signed64
+pub fn i64(g: Random) -> Drawn<i64, Random>
     ensures { I64Promise g result }
 {
     let d = u64(g);
     let next = d.next;
     let word = signed::signed_u64(d.word);
-    Signed64 { word, next }
+    Drawn { word, next }
 }
 
 // The next 32 words, XORed.
-pub fn pseudo(g: Random) -> Word32
+pub fn pseudo(g: Random) -> Drawn<u32, Random>
     ensures { PseudoPromise g result }
 {
     let mut moved = g;
@@ -92,5 +73,19 @@ pub fn pseudo(g: Random) -> Word32
     let e = d.next;
     let mt = moved.twister.mt;
     let next = with_table(e, mt);
-    Word32 { word: d.word, next }
+    Drawn { word: d.word, next }
+}
+
+impl Source for Random {
+    ghost drawn = { rand_of };
+
+    ghost drawn64 = { u64_of };
+
+    fn next_u32(self) -> Drawn<u32, Random> {
+        rand(self)
+    }
+
+    fn next_u64(self) -> Drawn<u64, Random> {
+        u64(self)
+    }
 }

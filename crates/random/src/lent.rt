@@ -2,11 +2,12 @@
 ghost use Rattle.random.specs.Promises.{NextU32Promise, NextU64Promise, WidthPromise, NextOwnPromise, PseudoInPromise};
 
 use crate::backend::Backend;
-use crate::engine::{Engine, EngineWord, EngineWord64, answer64};
+use crate::engine::{Engine, answer};
 use crate::ready::{made_ready, next_ready};
+use source::Drawn;
 
 // The next word of 32 bits, which is what `rand` gives.
-pub fn next_u32(e: Engine, mt: &mut [u32; 624]) -> EngineWord
+pub fn next_u32(e: Engine, mt: &mut [u32; 624]) -> Drawn<u32, Engine>
     ensures { NextU32Promise e mt.old result mt.new }
 {
     let ready = made_ready(e, mt);
@@ -14,7 +15,7 @@ pub fn next_u32(e: Engine, mt: &mut [u32; 624]) -> EngineWord
 }
 
 // The next word of 64 bits, by the kind's own order of halves.
-pub fn next_u64(e: Engine, mt: &mut [u32; 624]) -> EngineWord64
+pub fn next_u64(e: Engine, mt: &mut [u32; 624]) -> Drawn<u64, Engine>
     ensures { NextU64Promise e mt.old result mt.new }
 {
     let mti = e.mti;
@@ -23,21 +24,21 @@ pub fn next_u64(e: Engine, mt: &mut [u32; 624]) -> EngineWord64
         Backend::Xoshiro256PlusPlus(x) => {
             let d = x.next_u64();
             let next = d.next;
-            answer64(d.word, Backend::Xoshiro256PlusPlus(next), mti)
+            answer(d.word, Backend::Xoshiro256PlusPlus(next), mti)
         }
         Backend::MersenneTwister => {
             let s = mersenne_twister::next_u64_in(mt, mti);
-            answer64(s.word, Backend::MersenneTwister, s.mti)
+            answer(s.word, Backend::MersenneTwister, s.mti)
         }
         Backend::Pcg32(p) => {
             let d = p.next_u64();
             let next = d.next;
-            answer64(d.word, Backend::Pcg32(next), mti)
+            answer(d.word, Backend::Pcg32(next), mti)
         }
         Backend::Pcg64(p) => {
             let d = p.next_u64();
             let next = d.next;
-            answer64(d.word, Backend::Pcg64(next), mti)
+            answer(d.word, Backend::Pcg64(next), mti)
         }
     }
 }
@@ -55,7 +56,7 @@ pub fn width(backend: Backend) -> usize
 }
 
 // The next word of the kind's own width: one step of its engine.
-pub fn next_own(e: Engine, mt: &mut [u32; 624]) -> EngineWord64
+pub fn next_own(e: Engine, mt: &mut [u32; 624]) -> Drawn<u64, Engine>
     ensures { NextOwnPromise e mt.old result mt.new }
 {
     let backend = e.backend;
@@ -64,14 +65,14 @@ pub fn next_own(e: Engine, mt: &mut [u32; 624]) -> EngineWord64
     }
     let d = next_u32(e, mt);
     let next = d.next;
-    EngineWord64 {
+    Drawn {
         word: d.word as u64,
         next,
     }
 }
 
 // The next 32 words, XORed.
-pub fn pseudo_in(e: Engine, mt: &mut [u32; 624]) -> EngineWord
+pub fn pseudo_in(e: Engine, mt: &mut [u32; 624]) -> Drawn<u32, Engine>
     ensures { PseudoInPromise e mt.old result mt.new }
 {
     let mut next = e;
@@ -83,5 +84,5 @@ pub fn pseudo_in(e: Engine, mt: &mut [u32; 624]) -> EngineWord
         next = d.next;
         n += 1;
     }
-    EngineWord { word, next }
+    Drawn { word, next }
 }

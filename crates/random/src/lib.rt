@@ -9,7 +9,7 @@ mod lent;
 mod ready;
 
 pub use backend::{Backend, Random, on_table};
-pub use by_value::{Signed64, Word32, Word64, engine_of, i64, pseudo, rand, u64, with_table};
-pub use engine::{Engine, EngineWord, EngineWord64, engine_with};
+pub use by_value::{engine_of, i64, pseudo, rand, u64, with_table};
+pub use engine::{Engine, engine_with};
 pub use lent::{next_own, next_u32, next_u64, pseudo_in, width};
 pub use ready::{next_ready, surely_ready};

@@ -3,7 +3,7 @@
 use Rattle.std.specs.Prelude.{List, ◌≡◌, ℕ}
 use Rattle.std.proofs.Common.{◌∙◌, ap}
 use Rattle.mersenne_twister.specs.Table as twister
-use Rattle.mersenne_twister.specs.declared.Drawn32 as twister_drawn
+use Rattle.mersenne_twister.specs.declared.MersenneTwister as twister_type
 use Rattle.mersenne_twister.specs.declared.table.Step.{Step}
 use Rattle.source.specs.declared.Drawn.{Drawn}
 use Rattle.ahead.specs.Ahead.{Holds}
@@ -36,10 +36,10 @@ source_next {A} {f = f} h {x} e = record {
 }
 
 -- and what the twister draws, whose table is lent, is the twister's.
-pub twister_next_lem : {m m' : List ℕ} {p : ℕ} {s : Step} → twister.stepped s m' ≡ twister.drawn_in m p
+pub twister_next_lem : {m m' : List ℕ} {p : ℕ} {s : Step ℕ} → twister.stepped s m' ≡ twister.drawn_in m p
     → NextWord (gen MersenneTwister (twister.held m p)) s.word (gen MersenneTwister (twister.held m' s.mti))
 unfolding word_of step
 twister_next_lem e = record {
-  word = ap (λ (r : twister_drawn.Drawn32). r.word) e;
-  moved = ap (λ (r : twister_drawn.Drawn32). gen MersenneTwister r.next) e;
+  word = ap (λ (r : Drawn ℕ twister_type.MersenneTwister). r.word) e;
+  moved = ap (λ (r : Drawn ℕ twister_type.MersenneTwister). gen MersenneTwister r.next) e;
 }

@@ -1,6 +1,7 @@
 // What a call answers, as a row tells it. A float is its bits as an `f64`, a list or a buffer its digest, a place stands in the high half.
 use bounded::Answer;
-use random::{Random, Word32};
+use random::Random;
+use source::Drawn;
 
 #[derive(Clone, Copy)]
 pub(crate) struct Outcome {
@@ -21,7 +22,7 @@ pub(crate) fn plain(value: u64, next: Random) -> Outcome {
 }
 
 // A word of 32 bits.
-pub(crate) fn word(d: Word32) -> Outcome {
+pub(crate) fn word(d: Drawn<u32, Random>) -> Outcome {
     let next = d.next;
     plain(d.word as u64, next)
 }

@@ -13,11 +13,11 @@ use Rattle.words.proofs.OneOutcome.{bounded_only}
 use Rattle.words.proofs.AnswerIsFirst.{first_is_answer}
 use Rattle.signed.specs.Signed.{gap}
 use Rattle.random.specs.declared.engine.Engine.{Engine}
-use Rattle.random.specs.declared.engine.EngineWord.{EngineWord}
+use Rattle.source.specs.declared.Drawn.{Drawn}
 use Rattle.random.specs.Generator.{word_of, step, later, words_of, rand_of}
-use Rattle.random.specs.declared.by_value.Word32.{Word32}
 use Rattle.random.specs.GeneratorLaws.{later_none, later_one, word_at}
 use Rattle.random.specs.Lent.{joined_with, joined_word}
+use Rattle.random.specs.declared.backend.Random.{Random}
 use Rattle.bounded.specs.declared.answers.EngineAnswer.{EngineAnswer}
 use Rattle.bounded.specs.Answers.{AnswersIn, accepting}
 use Rattle.bounded.specs.AnswerLaws.{accepting_answers}
@@ -95,13 +95,14 @@ module _ (s : Words) (min max : ℤ) (budget : ℕ) where
 
 -- ---- the first word of a generator, as the code answers it
 
-pub raw_answers : {a : EngineAnswer} {w : EngineWord} {budget : ℕ} (e : Engine) (m m' : List ℕ) → 0 < budget
+pub raw_answers : {a : EngineAnswer} {w : Drawn ℕ Engine} {budget : ℕ} (e : Engine) (m m' : List ℕ) → 0 < budget
     → joined_word w m' ≡ rand_of (joined_with e m) → a ≡ accepting w.word 1 w.next → AnswersIn e m (λ s. raw_by s budget) a m'
 unfolding rand_of
 raw_answers {w = w} {budget = budget} e m m' some d p =
     let g = joined_with e m in
-    let next : joined_with w.next m' ≡ later 1 g = ap (λ (x : Word32). x.next) d ∙ ap step (sym (later_none g)) ∙ sym (later_one 0 g) in
-    let word : words_of g 0 ≡ w.word = sym (word_at 0 g) ∙ ap word_of (later_none g) ∙ sym (ap (λ (x : Word32). x.word) d) in
+    let next : joined_with w.next m' ≡ later 1 g =
+    ap (λ (x : Drawn ℕ Random). x.next) d ∙ ap step (sym (later_none g)) ∙ sym (later_one 0 g) in
+    let word : words_of g 0 ≡ w.word = sym (word_at 0 g) ∙ ap word_of (later_none g) ∙ sym (ap (λ (x : Drawn ℕ Random). x.word) d) in
     accepting_answers w.next m' g p (raw_word (words_of g) budget some ∙ ap (λ (v : ℕ). gives v 1) word) next
 
 -- no room between the ends: answered with 0, from no word

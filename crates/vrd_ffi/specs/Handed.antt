@@ -8,9 +8,7 @@ use Rattle.words.specs.Draw.{Words}
 use Rattle.words.specs.Refusal as refusal
 use Rattle.random.specs.Generator.{words_of}
 use Rattle.random.specs.declared.backend.Random.{Random}
-use Rattle.random.specs.declared.by_value.Signed64.{Signed64}
-use Rattle.random.specs.declared.by_value.Word32.{Word32}
-use Rattle.random.specs.declared.by_value.Word64.{Word64}
+use Rattle.source.specs.declared.Drawn.{Drawn}
 use Rattle.bounded.specs.Answers as answers
 use Rattle.bounded.specs.declared.answers.Answer.{Answer}
 use Rattle.spans.specs.IntAnswers as spans
@@ -23,8 +21,7 @@ use Rattle.floats.specs.declared.intervals.Uniform.{Uniform}
 use Rattle.floats.specs.declared.intervals.Uniform.TheVariants as uniform
 use Rattle.float_draws.specs.declared.coins.Flip.{Flip}
 use Rattle.float_draws.specs.declared.intervals.Spread.{Spread}
-use Rattle.float_draws.specs.declared.units.Drawn32.{Drawn32}
-use Rattle.float_draws.specs.declared.units.Drawn64.{Drawn64}
+use Rattle.float_draws.specs.declared.units.Fraction.{Fraction}
 use Rattle.making.specs.declared.bytes.Made.{Made}
 use Rattle.parts.specs.OwnParts.{own_parts}
 use Rattle.parts.specs.declared.splitting.EngineSplit.{EngineSplit}
@@ -50,16 +47,12 @@ word v n = record { value = v; refusal = n }
 abbrev pub signed_word : (value : ℤ) (refusal : ℕ) → SignedWord
 signed_word v n = record { value = v; refusal = n }
 
--- the library's word of 32 bits,
-abbrev pub word_of32 : Word32 → Reply Word
-word_of32 d = gives (word d.word 0) d.next
-
--- of 64 bits,
-abbrev pub word_of64 : Word64 → Reply Word
-word_of64 d = gives (word d.word 0) d.next
+-- the library's word, of 32 bits or of 64,
+abbrev pub word_handed : Drawn ℕ Random → Reply Word
+word_handed d = gives (word d.word 0) d.next
 
 -- and read as signed, handed out
-abbrev pub signed_of64 : Signed64 → Reply SignedWord
+abbrev pub signed_of64 : Drawn ℤ Random → Reply SignedWord
 signed_of64 d = gives (signed_word d.word 0) d.next
 
 -- ---- numbers drawn within a budget
@@ -123,15 +116,15 @@ abbrev pub coin : (value : Bool) (used refusal : ℕ) → Coin
 coin v u n = record { used = u; refusal = n; value = v }
 
 -- the library's `float`,
-abbrev pub float_of : Drawn32 → Reply Number32
+abbrev pub float_of : Fraction Float Random → Reply Number32
 float_of d = gives (number32 d.value 0) d.next
 
 -- its `double`,
-abbrev pub double_of : Drawn64 → Reply Number64
+abbrev pub double_of : Fraction Float Random → Reply Number64
 double_of d = gives (number64 d.value 0) d.next
 
 -- and its `bool`, handed out
-abbrev pub coin_of : Flip → Reply Coin
+abbrev pub coin_of : Flip Random → Reply Coin
 coin_of d = reply d.refusal (coin d.value d.used d.refusal) d.next
 
 -- a number or the refusal's number, as one answer: refused, the number is 0
@@ -140,7 +133,7 @@ uniform_number (uniform.Number v) = number64 v 0
 uniform_number (uniform.Refused n) = number64 zero64 n
 
 -- the library's `uniform`, handed out
-abbrev pub spread_of : Spread → Reply Number64
+abbrev pub spread_of : Spread Random → Reply Number64
 spread_of d = reply (refusal_of d.answer) (uniform_number d.answer) d.next
 
 -- ---- lists and buffers

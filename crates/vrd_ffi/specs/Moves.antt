@@ -2,26 +2,22 @@
 use Rattle.std.specs.Prelude.{◌≡◌, Bool, true, false, cond, List, ℕ, ◌≤◌, ◌<◌, ◌^◌, eqb}
 use Rattle.words.specs.Draw.{good, quotient}
 use Rattle.random.specs.Generator.{rand_of, u64_of, word_of, steps64}
-use Rattle.random.specs.declared.by_value.Word32.{Word32}
-use Rattle.random.specs.declared.by_value.Word64.{Word64}
+use Rattle.random.specs.declared.backend.Random.{Random}
+use Rattle.source.specs.declared.Drawn.{Drawn}
 use Rattle.lent_state.specs.Answers.{Reply, gives, told, written}
 use Rattle.lent_state.specs.State.{kind_in, backend_in, generator_in}
 
 -- a word drawn, as a reply
-abbrev pub drew32 : Word32 → Reply ℕ
-drew32 d = gives d.word d.next
-
--- the same of 64 bits
-abbrev pub drew64 : Word64 → Reply ℕ
-drew64 d = gives d.word d.next
+abbrev pub drew : Drawn ℕ Random → Reply ℕ
+drew d = gives d.word d.next
 
 -- the next word of 32 or of 64 bits is drawn off the generator, which is written back
 abbrev pub Moves32 : List ℕ → List ℕ → ℕ → List ℕ → List ℕ → Type 0
-Moves32 s t word s' t' = told word s' t' ≡ written s (drew32 (rand_of (generator_in s t)))
+Moves32 s t word s' t' = told word s' t' ≡ written s (drew (rand_of (generator_in s t)))
 
 -- the next word of 64 bits
 abbrev pub Moves64 : List ℕ → List ℕ → ℕ → List ℕ → List ℕ → Type 0
-Moves64 s t word s' t' = told word s' t' ≡ written s (drew64 (u64_of (generator_in s t)))
+Moves64 s t word s' t' = told word s' t' ≡ written s (drew (u64_of (generator_in s t)))
 
 -- how many words a word of 64 bits takes
 abbrev pub steps_in : List ℕ → ℕ

@@ -4,14 +4,12 @@ use Rattle.std.proofs.Common.{sym, ◌∙◌, ap, arith, mod-lt, eq-eqb, ne_eqb}
 use Rattle.words.specs.Draw.{good}
 use Rattle.words.proofs.BelowItsBound.{quotient_below}
 use Rattle.words.proofs.GoodWord.{good_passes, passes_good, passes_positive}
-use Rattle.mersenne_twister.specs.declared.Drawn32.{Drawn32}
-use Rattle.mersenne_twister.specs.declared.Drawn64.{Drawn64}
+use Rattle.source.specs.declared.Drawn.{Drawn}
 use Rattle.mersenne_twister.specs.declared.table.Step.{Step}
-use Rattle.mersenne_twister.specs.declared.table.Step64.{Step64}
 use Rattle.mersenne_twister.specs.DrawLaws.{in_low}
 use Rattle.mersenne_twister.specs.Sequence.{temper}
 use Rattle.mersenne_twister.specs.Table as twister
-use Rattle.source.specs.declared.Drawn as source
+use Rattle.mersenne_twister.specs.declared.MersenneTwister.{MersenneTwister}
 use Rattle.pcg.specs.Pcg32 as pcg32
 use Rattle.pcg.specs.Pcg64 as pcg64
 use Rattle.pcg.specs.declared.pcg32.Pcg32 as pcg32_type
@@ -28,28 +26,31 @@ use Rattle.lent_state.specs.State.{six, small_state, position_state, state_with,
 
 -- ---- each kind's own words: `s'` is the state after the write
 
+-- the twister's draw, told as six words and its table
+abbrev twister_told : List ℕ → Drawn ℕ MersenneTwister → Told ℕ
+twister_told s d = told d.word (six 1 d.next.mti (get_or s 2 0) (get_or s 3 0) (get_or s 4 0) (get_or s 5 0)) d.next.mt
+
 module _ (s t : List ℕ) (s' : List ℕ) where
-  pub xoshiro_moved : kind_in s ≡ 0 → (d : source.Drawn ℕ xoshiro_type.Xoshiro256PlusPlus) → d ≡ xoshiro.drawn_high (xoshiro_in s)
+  pub xoshiro_moved : kind_in s ≡ 0 → (d : Drawn ℕ xoshiro_type.Xoshiro256PlusPlus) → d ≡ xoshiro.drawn_high (xoshiro_in s)
       → s' ≡ small_state s d.next.s0 d.next.s1 d.next.s2 d.next.s3 → Moves32 s t d.word s' t
   unfolding rand_of word_of step backend_in state_with state_after
   xoshiro_moved k d h w = rw (w, k, h)
 
-  pub pcg32_moved : kind_in s ≡ 2 → (d : source.Drawn ℕ pcg32_type.Pcg32) → d ≡ pcg32.drawn (pcg32_in s)
+  pub pcg32_moved : kind_in s ≡ 2 → (d : Drawn ℕ pcg32_type.Pcg32) → d ≡ pcg32.drawn (pcg32_in s)
       → s' ≡ small_state s d.next.state d.next.inc (get_or s 4 0) (get_or s 5 0) → Moves32 s t d.word s' t
   unfolding rand_of word_of step backend_in state_with state_after
   pcg32_moved k d h w = rw (w, k, h)
 
-  pub pcg64_moved : kind_in s ≡ 3 → (d : source.Drawn ℕ pcg64_type.Pcg64) → d ≡ pcg64.drawn_high (pcg64_in s)
+  pub pcg64_moved : kind_in s ≡ 3 → (d : Drawn ℕ pcg64_type.Pcg64) → d ≡ pcg64.drawn_high (pcg64_in s)
       → s' ≡ small_state s d.next.state.high d.next.state.low d.next.inc.high d.next.inc.low → Moves32 s t d.word s' t
   unfolding rand_of word_of step backend_in state_with state_after
   pcg64_moved k d h w = rw (w, k, h)
 
-  pub twister_moved : kind_in s ≡ 1 → (d : Step) (u : List ℕ) → twister.stepped d u ≡ twister.drawn_in t (position_in s)
+  pub twister_moved : kind_in s ≡ 1 → (d : Step ℕ) (u : List ℕ) → twister.stepped d u ≡ twister.drawn_in t (position_in s)
       → s' ≡ position_state s d.mti → Moves32 s t d.word s' u
   unfolding rand_of word_of step backend_in state_with state_after
   twister_moved k d u h w =
-      rw (w, k)
-      (ap (λ (x : Drawn32). told x.word (six 1 x.next.mti (get_or s 2 0) (get_or s 3 0) (get_or s 4 0) (get_or s 5 0)) x.next.mt) h)
+      rw (w, k) (ap (twister_told s) h)
 
   -- the twister's word where its table is not renewed for it
   pub twister_ready : kind_in s ≡ 1 → (m : ℕ) → m ≡ position_in s → m < 624 → (w : ℕ) → w ≡ temper (get_or t m 0)
@@ -60,27 +61,26 @@ module _ (s t : List ℕ) (s' : List ℕ) where
 
   -- ---- of 64 bits
 
-  pub xoshiro_moved64 : kind_in s ≡ 0 → (d : source.Drawn ℕ xoshiro_type.Xoshiro256PlusPlus) → d ≡ xoshiro.drawn (xoshiro_in s)
+  pub xoshiro_moved64 : kind_in s ≡ 0 → (d : Drawn ℕ xoshiro_type.Xoshiro256PlusPlus) → d ≡ xoshiro.drawn (xoshiro_in s)
       → s' ≡ small_state s d.next.s0 d.next.s1 d.next.s2 d.next.s3 → Moves64 s t d.word s' t
   unfolding u64_of word64_of later step backend_in state_with state_after
   xoshiro_moved64 k d h w = rw (w, k, h)
 
-  pub pcg32_moved64 : kind_in s ≡ 2 → (d : source.Drawn ℕ pcg32_type.Pcg32) → d ≡ pcg32.drawn_twice (pcg32_in s)
+  pub pcg32_moved64 : kind_in s ≡ 2 → (d : Drawn ℕ pcg32_type.Pcg32) → d ≡ pcg32.drawn_twice (pcg32_in s)
       → s' ≡ small_state s d.next.state d.next.inc (get_or s 4 0) (get_or s 5 0) → Moves64 s t d.word s' t
   unfolding u64_of word64_of later step backend_in state_with state_after
   pcg32_moved64 k d h w = rw (w, k, h)
 
-  pub pcg64_moved64 : kind_in s ≡ 3 → (d : source.Drawn ℕ pcg64_type.Pcg64) → d ≡ pcg64.drawn (pcg64_in s)
+  pub pcg64_moved64 : kind_in s ≡ 3 → (d : Drawn ℕ pcg64_type.Pcg64) → d ≡ pcg64.drawn (pcg64_in s)
       → s' ≡ small_state s d.next.state.high d.next.state.low d.next.inc.high d.next.inc.low → Moves64 s t d.word s' t
   unfolding u64_of word64_of later step backend_in state_with state_after
   pcg64_moved64 k d h w = rw (w, k, h)
 
-  pub twister_moved64 : kind_in s ≡ 1 → (d : Step64) (u : List ℕ) → twister.stepped64 d u ≡ twister.drawn64_in t (position_in s)
+  pub twister_moved64 : kind_in s ≡ 1 → (d : Step ℕ) (u : List ℕ) → twister.stepped d u ≡ twister.drawn64_in t (position_in s)
       → s' ≡ position_state s d.mti → Moves64 s t d.word s' u
   unfolding u64_of word64_of later step backend_in state_with state_after twister.drawn64
   twister_moved64 k d u h w =
-      rw (w, k)
-      (ap (λ (x : Drawn64). told x.word (six 1 x.next.mti (get_or s 2 0) (get_or s 3 0) (get_or s 4 0) (get_or s 5 0)) x.next.mt) h)
+      rw (w, k) (ap (twister_told s) h)
 
 -- ---- the two widths
 

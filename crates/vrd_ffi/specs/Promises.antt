@@ -37,7 +37,7 @@ use Rattle.vrd_ffi.specs.declared.answers.SignedWord.{SignedWord}
 use Rattle.vrd_ffi.specs.declared.answers.Word.{Word}
 use Rattle.lent_state.specs.Answers.{told, gives, formed, of_known, at_boundary}
 use Rattle.vrd_ffi.specs.Handed.{word, signed_word, number, integer, choice, number32, number64, coin, zero32, zero64}
-use Rattle.vrd_ffi.specs.Handed.{word_of32, word_of64, signed_of64, drawn_by, counted_by, choice_of, start_of}
+use Rattle.vrd_ffi.specs.Handed.{word_handed, signed_of64, drawn_by, counted_by, choice_of, start_of}
 use Rattle.vrd_ffi.specs.Handed.{float_of, double_of, coin_of, spread_of}
 use Rattle.vrd_ffi.specs.Handed.{listed, made, halves, divided, same_refusal, Equal}
 use Rattle.lent_state.specs.Placing.{state_made}
@@ -47,11 +47,11 @@ use Rattle.lent_state.specs.State.{backend_in, position_in, engine_from}
 
 -- the next word
 abbrev pub VrdRandPromise : List ℕ → List ℕ → Word → List ℕ → List ℕ → Type 0
-VrdRandPromise s t r s' t' = told r s' t' ≡ at_boundary s t (word 0 refusal.kind) (λ g. word_of32 (rand_of g))
+VrdRandPromise s t r s' t' = told r s' t' ≡ at_boundary s t (word 0 refusal.kind) (λ g. word_handed (rand_of g))
 
 -- the next word of 64 bits, by the kind's own order of halves
 abbrev pub VrdU64Promise : List ℕ → List ℕ → Word → List ℕ → List ℕ → Type 0
-VrdU64Promise s t r s' t' = told r s' t' ≡ at_boundary s t (word 0 refusal.kind) (λ g. word_of64 (u64_of g))
+VrdU64Promise s t r s' t' = told r s' t' ≡ at_boundary s t (word 0 refusal.kind) (λ g. word_handed (u64_of g))
 
 -- the same word, read as signed
 abbrev pub VrdI64Promise : List ℕ → List ℕ → SignedWord → List ℕ → List ℕ → Type 0
@@ -59,7 +59,7 @@ VrdI64Promise s t r s' t' = told r s' t' ≡ at_boundary s t (signed_word (pos 0
 
 -- the next 32 words, XORed
 abbrev pub VrdPseudoPromise : List ℕ → List ℕ → Word → List ℕ → List ℕ → Type 0
-VrdPseudoPromise s t r s' t' = told r s' t' ≡ at_boundary s t (word 0 refusal.kind) (λ g. word_of32 (pseudo_of g))
+VrdPseudoPromise s t r s' t' = told r s' t' ≡ at_boundary s t (word 0 refusal.kind) (λ g. word_handed (pseudo_of g))
 
 -- ---- numbers drawn within a budget
 

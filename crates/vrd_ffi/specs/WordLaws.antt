@@ -20,8 +20,8 @@ use Rattle.float_draws.specs.Units.{float_from, double_from}
 use Rattle.lent_state.specs.Answers.{Told, told, Reply, formed, written, at_boundary}
 use Rattle.lent_state.specs.AnswersLaws.{known_kind, kept}
 use Rattle.vrd_ffi.specs.Handed.{word, signed_word, number32, number64, coin, zero32, zero64, uniform_number}
-use Rattle.vrd_ffi.specs.Handed.{word_of32, word_of64, signed_of64, float_of, double_of, coin_of, spread_of}
-use Rattle.vrd_ffi.specs.Moves.{drew32, drew64, Moves32, Moves64}
+use Rattle.vrd_ffi.specs.Handed.{word_handed, signed_of64, float_of, double_of, coin_of, spread_of}
+use Rattle.vrd_ffi.specs.Moves.{drew, Moves32, Moves64}
 use Rattle.lent_state.specs.State.{kind_in, backend_in, generator_in}
 
 module _ (s t : List ℕ) (k : kind_in s ≤ 3) {w : ℕ} {s' u : List ℕ} where
@@ -31,41 +31,41 @@ module _ (s t : List ℕ) (k : kind_in s ≤ 3) {w : ℕ} {s' u : List ℕ} wher
   moved_as d f none call m e =
       ap (λ (x : Told ℕ). told (f x.answer) x.state x.table) m ∙ ap (written s) e ∙ known_kind s t none call k
 
-  pub rand_moved : Moves32 s t w s' u → told (word w 0) s' u ≡ at_boundary s t (word 0 refusal.kind) (λ g. word_of32 (rand_of g))
-  rand_moved m = moved_as (drew32 (rand_of (generator_in s t))) (λ v. word v 0) _ _ m refl
+  pub rand_moved : Moves32 s t w s' u → told (word w 0) s' u ≡ at_boundary s t (word 0 refusal.kind) (λ g. word_handed (rand_of g))
+  rand_moved m = moved_as (drew (rand_of (generator_in s t))) (λ v. word v 0) _ _ m refl
 
-  pub u64_moved : Moves64 s t w s' u → told (word w 0) s' u ≡ at_boundary s t (word 0 refusal.kind) (λ g. word_of64 (u64_of g))
-  u64_moved m = moved_as (drew64 (u64_of (generator_in s t))) (λ v. word v 0) _ _ m refl
+  pub u64_moved : Moves64 s t w s' u → told (word w 0) s' u ≡ at_boundary s t (word 0 refusal.kind) (λ g. word_handed (u64_of g))
+  u64_moved m = moved_as (drew (u64_of (generator_in s t))) (λ v. word v 0) _ _ m refl
 
   pub i64_moved : Moves64 s t w s' u
       → told (signed_word (signed_of 64 w) 0) s' u ≡ at_boundary s t (signed_word (pos 0) refusal.kind) (λ g. signed_of64 (i64_of g))
   unfolding u64_of i64_of
-  i64_moved m = moved_as (drew64 (u64_of (generator_in s t))) (λ v. signed_word (signed_of 64 v) 0) _ _ m refl
+  i64_moved m = moved_as (drew (u64_of (generator_in s t))) (λ v. signed_word (signed_of 64 v) 0) _ _ m refl
 
   -- ---- floats
 
   pub float_moved : Moves32 s t w s' u
       → told (number32 (units.float_of w) 0) s' u ≡ at_boundary s t (number32 zero32 refusal.kind) (λ g. float_of (float_from g))
   unfolding rand_of float_from
-  float_moved m = moved_as (drew32 (rand_of (generator_in s t))) (λ v. number32 (units.float_of v) 0) _ _ m refl
+  float_moved m = moved_as (drew (rand_of (generator_in s t))) (λ v. number32 (units.float_of v) 0) _ _ m refl
 
   pub double_moved : Moves64 s t w s' u
       → told (number64 (units.double_of w) 0) s' u ≡ at_boundary s t (number64 zero64 refusal.kind) (λ g. double_of (double_from g))
   unfolding u64_of double_from
-  double_moved m = moved_as (drew64 (u64_of (generator_in s t))) (λ v. number64 (units.double_of v) 0) _ _ m refl
+  double_moved m = moved_as (drew (u64_of (generator_in s t))) (λ v. number64 (units.double_of v) 0) _ _ m refl
 
   pub coin_moved : (p : Float) → chances.is_chance p ≡ true → Moves64 s t w s' u
       → told (coin (chances.coin_of p w).value (steps64 (backend_in s)) 0) s' u
       ≡ at_boundary s t (coin false 0 refusal.kind) (λ g. coin_of (flip_from g p))
   unfolding u64_of flip_from
   coin_moved p c m =
-      moved_as (drew64 (u64_of (generator_in s t))) (λ v. coin (chances.coin_of p v).value (steps64 (backend_in s)) 0) _ _ m (rw c)
+      moved_as (drew (u64_of (generator_in s t))) (λ v. coin (chances.coin_of p v).value (steps64 (backend_in s)) 0) _ _ m (rw c)
 
   pub spread_moved : (i : Interval) → interval_refusal i ≡ 0 → Moves64 s t w s' u
       → told (uniform_number (uniform_of i w)) s' u ≡ at_boundary s t (number64 zero64 refusal.kind) (λ g. spread_of (spread_from g i))
   unfolding u64_of spread_from
   spread_moved i z m =
-      moved_as (drew64 (u64_of (generator_in s t))) (λ v. uniform_number (uniform_of i v)) _ _ m
+      moved_as (drew (u64_of (generator_in s t))) (λ v. uniform_number (uniform_of i v)) _ _ m
       (rw (uniform_taken i (word64_of (generator_in s t)) z, eq-eqb (interval_refusal i) 0 z))
 
 -- ---- refused, and no word drawn

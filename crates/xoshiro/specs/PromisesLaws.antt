@@ -18,10 +18,12 @@ pub one_xoshiro_from_seed : (seed : List ℕ) {a b : Xoshiro256PlusPlus}
     → XoshiroFromSeedPromise seed a → XoshiroFromSeedPromise seed b → a ≡ b
 one_xoshiro_from_seed seed p q = p ∙ sym q
 
-pub one_xoshiro_next_u64 : (self : Xoshiro256PlusPlus) {a b : Drawn ℕ Xoshiro256PlusPlus} → XoshiroNextU64Promise self a → XoshiroNextU64Promise self b → a ≡ b
+pub one_xoshiro_next_u64 : (self : Xoshiro256PlusPlus) {a b : Drawn ℕ Xoshiro256PlusPlus}
+    → XoshiroNextU64Promise self a → XoshiroNextU64Promise self b → a ≡ b
 one_xoshiro_next_u64 self p q = p ∙ sym q
 
-pub one_xoshiro_next_u32 : (self : Xoshiro256PlusPlus) {a b : Drawn ℕ Xoshiro256PlusPlus} → XoshiroNextU32Promise self a → XoshiroNextU32Promise self b → a ≡ b
+pub one_xoshiro_next_u32 : (self : Xoshiro256PlusPlus) {a b : Drawn ℕ Xoshiro256PlusPlus}
+    → XoshiroNextU32Promise self a → XoshiroNextU32Promise self b → a ≡ b
 one_xoshiro_next_u32 self p q = p ∙ sym q
 
 pub one_xoshiro_jump : (self : Xoshiro256PlusPlus) {a b : Xoshiro256PlusPlus}

@@ -1,8 +1,10 @@
 -- `mt_words` meets its contract. The loop's invariant: it has come i words far.
+use Rattle.std.specs.Prelude.{ℕ}
 use native.Mathlib.Omega.{arith}
 use mathlib.Core.Path.{◌≡◌, ap}
 use Rattle.mersenne_twister.specs.Table.{held}
-use Rattle.mersenne_twister.specs.declared.Drawn32.{Drawn32}
+use Rattle.mersenne_twister.specs.declared.MersenneTwister.{MersenneTwister}
+use Rattle.source.specs.declared.Drawn.{Drawn}
 use Rattle.bench_ffi.specs.Loops.{twister_step, twister_word}
 use Rattle.bench_ffi.specs.Steps.{came_nowhere, came_further}
 use Rattle.bench_ffi.proofs.twister_calls.mt_words.Goals as goal
@@ -22,7 +24,7 @@ loop-i-preserved c =
     let drawn = c.rand_in-d.ensures in (
       omega arith,
       came_further twister_step twister_word _ loop.i (held loop.mt loop.at) _ loop.word _ loop.invariant.1
-          (ap (λ (d : Drawn32). d.next) drawn) (ap (λ (d : Drawn32). d.word) drawn),
+          (ap (λ (d : Drawn ℕ MersenneTwister). d.next) drawn) (ap (λ (d : Drawn ℕ MersenneTwister). d.word) drawn),
     )
 
 pub returns : goal.returns

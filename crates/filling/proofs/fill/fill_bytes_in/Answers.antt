@@ -1,6 +1,8 @@
 -- `fill_bytes_in` meets its contract: the whole words, and the low bytes of one more where some room is left.
 use mathlib.Core.Path.{ap}
-use Rattle.random.specs.declared.by_value.Word64.{Word64}
+use Rattle.std.specs.Prelude.{ℕ}
+use Rattle.source.specs.declared.Drawn.{Drawn}
+use Rattle.random.specs.declared.backend.Random.{Random}
 use Rattle.random.specs.Generator.{own_of}
 use Rattle.filling.specs.FillLaws.{filled_whole, filled_tail}
 use Rattle.filling.proofs.fill.fill_bytes_in.Goals as goal
@@ -13,6 +15,6 @@ pub returns : goal.returns
 unfolding own_of
 returns c =
     let width = c.width-width.ensures in
-    let word = ap (λ (d : Word64). d.word) c.next_own-d.ensures in
-    let next = ap (λ (d : Word64). d.next) c.next_own-d.ensures in
+    let word = ap (λ (d : Drawn ℕ Random). d.word) c.next_own-d.ensures in
+    let next = ap (λ (d : Drawn ℕ Random). d.next) c.next_own-d.ensures in
     rw (c.put_few.ensures, width) (filled_tail c.whole_words-next.ensures _ _ (rw width at c.if-few-eq0.false) word next)
