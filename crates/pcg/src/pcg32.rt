@@ -24,7 +24,7 @@ pub struct Pcg32 {
 fn next_state(state: u64, inc: u64) -> u64
     ensures { result ≡ next_state inc state }
 {
-    wrapping::mul_u64(state, MULTIPLIER).wrapping_add(inc)
+    state.wrapping_mul(MULTIPLIER).wrapping_add(inc)
 }
 
 // The word that a state gives: XOR-shift-high, then a rotation by the top five bits.

@@ -1,6 +1,5 @@
 -- What the crate's calls mean, in plain arithmetic over natural numbers, with the laws that hold of it.
 pub mod Product
-pub mod Columns
 pub mod Rotate
 pub mod RotateLaws
 pub mod Wide

@@ -5,22 +5,12 @@ ghost use Rattle.wrapping.specs.Promises.{RotateLeftU32Promise, RotateRightU32Pr
 pub fn rotate_left_u32(x: u32, k: u32) -> u32
     ensures { RotateLeftU32Promise x k result }
 {
-    let up = k % 32;
-    if up == 0 {
-        x
-    } else {
-        (x << up) | (x >> (32 - up))
-    }
+    x.rotate_left(k)
 }
 
 // x rotated right by k bits, k modulo 32.
 pub fn rotate_right_u32(x: u32, k: u32) -> u32
     ensures { RotateRightU32Promise x k result }
 {
-    let down = k % 32;
-    if down == 0 {
-        x
-    } else {
-        (x << (32 - down)) | (x >> down)
-    }
+    x.rotate_right(k)
 }

@@ -5,22 +5,12 @@ ghost use Rattle.wrapping.specs.Promises.{RotateLeftU64Promise, RotateRightU64Pr
 pub fn rotate_left_u64(x: u64, k: u32) -> u64
     ensures { RotateLeftU64Promise x k result }
 {
-    let up = k % 64;
-    if up == 0 {
-        x
-    } else {
-        (x << up) | (x >> (64 - up))
-    }
+    x.rotate_left(k)
 }
 
 // x rotated right by k bits, k modulo 64.
 pub fn rotate_right_u64(x: u64, k: u32) -> u64
     ensures { RotateRightU64Promise x k result }
 {
-    let down = k % 64;
-    if down == 0 {
-        x
-    } else {
-        (x << (64 - down)) | (x >> down)
-    }
+    x.rotate_right(k)
 }

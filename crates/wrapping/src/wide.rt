@@ -16,11 +16,11 @@ impl Wide {
     pub fn wrapping_add(self, other: Wide) -> Wide
         ensures { WideWrappingAddPromise self other result }
     {
-        let low = std::num::wrapping_add_u64(self.low, other.low);
-        let high = std::num::wrapping_add_u64(self.high, other.high);
+        let low = self.low.wrapping_add(other.low);
+        let high = self.high.wrapping_add(other.high);
         if low < other.low {
             Wide {
-                high: std::num::wrapping_add_u64(high, 1),
+                high: high.wrapping_add(1),
                 low: low,
             }
         } else {
@@ -37,9 +37,9 @@ impl Wide {
     {
         let left = mul_u64(self.high, other.low);
         let right = mul_u64(self.low, other.high);
-        let cross = std::num::wrapping_add_u64(left, right);
+        let cross = left.wrapping_add(right);
         Wide {
-            high: std::num::wrapping_add_u64(upper_u64(self.low, other.low), cross),
+            high: upper_u64(self.low, other.low).wrapping_add(cross),
             low: mul_u64(self.low, other.low),
         }
     }

@@ -22,8 +22,8 @@ fn splitmix64(state: &mut u64) -> u64
 fn mix(z: u64) -> u64
     ensures { result ≡ mixed z }
 {
-    let y = wrapping::mul_u64(z ^ (z >> 30), 0xBF58_476D_1CE4_E5B9);
-    let x = wrapping::mul_u64(y ^ (y >> 27), 0x94D0_49BB_1331_11EB);
+    let y = (z ^ (z >> 30)).wrapping_mul(0xBF58_476D_1CE4_E5B9);
+    let x = (y ^ (y >> 27)).wrapping_mul(0x94D0_49BB_1331_11EB);
     x ^ (x >> 31)
 }
 

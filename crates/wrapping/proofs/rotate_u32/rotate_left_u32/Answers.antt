@@ -1,11 +1,7 @@
--- `rotate_left_u32` meets its contract, by the laws of rotations at 32 bits.
-use Rattle.std.proofs.Common.{◌-◌, ◌%◌, sym, arith}
-use Rattle.wrapping.specs.RotateLaws.{turned, turn_none}
+-- `rotate_left_u32` meets its contract: std joins the two parts by `|`.
+use Rattle.std.proofs.Common.{◌∙◌, lit<, arith}
+use Rattle.wrapping.specs.RotateLaws.{joined_left}
 use Rattle.wrapping.proofs.rotate_u32.rotate_left_u32.Goals as goal
 
-pub returns-then-up-eq0 : goal.returns-then-up-eq0
-returns-then-up-eq0 c = rw c.if-up-eq0.true (sym (turn_none 32 _ (omega arith)))
-
-pub returns-else-up-eq0 : goal.returns-else-up-eq0
-returns-else-up-eq0 c = let a = c.args in
-    turned 32 a.x (32 - a.k % 32) (a.k % 32) (omega arith) (omega arith)
+pub returns : goal.returns
+returns c = c.rotate_left.ensures ∙ joined_left 32 _ _ (lit< tt) (omega arith)

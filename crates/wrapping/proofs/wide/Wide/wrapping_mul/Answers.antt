@@ -1,6 +1,6 @@
 -- `Wide::wrapping_mul` meets its contract: the high word is the upper word of the low words' product and the two cross products, summed
 -- as they come, each wrapped.
-use Rattle.std.proofs.Common.{◌*◌, ◌/◌, ◌^◌, ◌∙◌, add_comm}
+use Rattle.std.proofs.Common.{◌*◌, ◌/◌, ◌^◌, add_comm}
 use native.Mathlib.Nat.{add-mod-mod}
 use Rattle.wrapping.specs.WideLaws.{product_words, sum_of_wrapped}
 use Rattle.wrapping.proofs.wide.Wide.wrapping_mul.Goals as goal
@@ -9,7 +9,6 @@ pub returns : goal.returns
 returns c =
     let a = c.args in
     let wrapped = sum_of_wrapped (a.self.high * a.other.low) (a.self.low * a.other.high) (a.self.low * a.other.low / 2 ^ 64) in
-    let crossed = rw (c.mul_u64-left.ensures, c.mul_u64-right.ensures) at c.wrapping_add_u64-cross.ensures.value in
     product_words _ a.self a.other
-    (c.wrapping_add_u64.ensures.value ∙ rw (c.upper_u64.ensures, crossed, add-mod-mod, add_comm) wrapped)
+    (rw (c.upper_u64.ensures, c.mul_u64-left.ensures, c.mul_u64-right.ensures, add-mod-mod, add_comm) wrapped)
     c.mul_u64.ensures
