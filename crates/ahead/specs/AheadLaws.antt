@@ -7,9 +7,9 @@ use Rattle.std.proofs.Math.Seq.{drop-nil}
 use Rattle.std.proofs.lemmas.List.{set_at, get_or_at}
 use Rattle.words.specs.Draw.{Words}
 use Rattle.mersenne_twister.specs.Table as twister
-use Rattle.source.specs.declared.Drawn.{Drawn}
-use Rattle.mersenne_twister.specs.declared.table.Step.{Step}
 use Rattle.mersenne_twister.specs.declared.MersenneTwister as twister_type
+use Rattle.mersenne_twister.specs.declared.table.Step.{Step}
+use Rattle.source.specs.declared.Drawn.{Drawn}
 use Rattle.pcg.specs.Pcg32 as pcg32
 use Rattle.pcg.specs.Pcg64 as pcg64
 use Rattle.xoshiro.specs.Generator as xoshiro

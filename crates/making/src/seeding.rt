@@ -7,12 +7,12 @@ use wrapping::Wide;
 use xoshiro::Xoshiro256PlusPlus;
 
 // The kind is kept; the 32-bit seed is widened, and the stream is the default one.
+#[tactic(auto, unfolding(crate::specs::Seeding::seeded_to))]
 pub fn seed_in(e: Engine, mt: &mut [u32; 624], seed: u32) -> Engine
     ensures { MakingSeedInPromise e mt.old seed result mt.new }
 {
     let mti = e.mti;
-    let backend = e.backend;
-    match backend {
+    match e.backend {
         Backend::Xoshiro256PlusPlus(_) => {
             let x = Xoshiro256PlusPlus::from_u64_seed(seed as u64);
             engine_with(Backend::Xoshiro256PlusPlus(x), mti)

@@ -26,6 +26,7 @@ pub struct MersenneTwister {
 
 impl MersenneTwister {
     // Seeded from a number.
+    #[tactic(auto, using(crate::specs::TableLaws::seeded_in_lem))]
     pub fn from_u32_seed(seed: u32) -> MersenneTwister
         ensures { TwisterFromU32SeedPromise seed result }
     {
@@ -42,6 +43,7 @@ impl MersenneTwister {
     }
 
     // Seeded anew from a number, whatever the generator was.
+    #[tactic(auto, using(crate::specs::TableLaws::seeded_in_lem))]
     pub fn seed(mut self, seed: u32) -> MersenneTwister
         ensures { TwisterSeedPromise seed result }
     {

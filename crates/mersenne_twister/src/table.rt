@@ -22,28 +22,26 @@ pub fn stored_position(value: u32) -> u32
 }
 
 // Seeds the table from a number; the answer is the position, at which the first draw twists.
+#[tactic(auto, using(crate::specs::TableLaws::stored_more), unfolding(crate::specs::Sequence::seed_word, crate::specs::Table::stored))]
 pub fn seed_in(mt: &mut [u32; 624], seed: u32) -> u32
     ensures { SeedInPromise mt.old seed result mt.new }
 {
     let mut word = seed;
-    let mut i: u32 = 0;
-    while i < END {
+    for i in 0..END {
         mt[i as usize] = word;
-        i += 1;
-        word = seed_step(word, i);
+        word = seed_step(word, i + 1);
     }
     END
 }
 
 // The eight little-endian words of a seed of 32 bytes, XORed.
+#[tactic(auto, unfolding(crate::specs::Table::words_xored))]
 pub(crate) fn fold_seed(seed: &[u8]) -> u32
     ensures { result ≡ folded seed.now }
 {
     let mut word: u32 = 0;
-    let mut k: usize = 0;
-    while k < 8 {
+    for k in 0..8 {
         word ^= wrapping::le_u32(seed, 4 * k);
-        k += 1;
     }
     word
 }
@@ -65,21 +63,18 @@ fn renew_at(mt: &mut [u32; 624], i: usize, j: usize, k: usize)
 
 // Every entry is renewed in its turn, so that those from 227 on are made with entries already renewed. Three runs and the last entry:
 // no index needs a remainder, and no run reads, as the third entry, one that it renews itself, so that the compiler renews several at once.
+#[tactic(auto, using(crate::specs::TableLaws::renewed_more), unfolding(crate::specs::Table::renewed))]
 fn renew(mt: &mut [u32; 624])
     ensures { mt.new ≡ renewed 624 mt.old }
 {
-    let mut i: usize = 0;
-    while i < BACK {
+    for i in 0..BACK {
         renew_at(mt, i, i + 1, i + M);
-        i += 1;
     }
-    while i < TWICE_BACK {
+    for i in BACK..TWICE_BACK {
         renew_at(mt, i, i + 1, i - BACK);
-        i += 1;
     }
-    while i < LAST {
+    for i in TWICE_BACK..LAST {
         renew_at(mt, i, i + 1, i - BACK);
-        i += 1;
     }
     renew_at(mt, LAST, 0, LAST - BACK);
 }

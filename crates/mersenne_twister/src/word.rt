@@ -8,6 +8,7 @@ use super::constants::{
 };
 
 // v A, the product of a row of 32 bits and the matrix A.
+#[tactic(auto, unfolding(crate::specs::Sequence::times_a))]
 fn times_a(v: u32) -> u32
     ensures { result ≡ times_a v }
 {
@@ -34,8 +35,9 @@ pub fn temper_word(x: u32) -> u32
 }
 
 // The word of the seeding at place `i`, from the word `p` before it.
+#[tactic(auto, unfolding(crate::specs::Sequence::seed_step))]
 pub(crate) fn seed_step(p: u32, i: u32) -> u32
     ensures { result ≡ seed_step p i }
 {
-    std::num::wrapping_add_u32(wrapping::mul_u32(MULTIPLIER, p ^ (p >> 30)), i)
+    MULTIPLIER.wrapping_mul(p ^ (p >> 30)).wrapping_add(i)
 }

@@ -5,7 +5,7 @@ ghost use Rattle.parts.specs.OwnParts.{table_part};
 ghost use Rattle.parts.specs.Promises.{SameWordsPromise, SameInPromise, SamePromise};
 
 use crate::position::mti_in;
-use crate::read_out::{Small, kind, small_words};
+use crate::read_out::kind;
 use random::{Backend, Engine, Random, engine_of};
 
 // Whether two lists hold the same words.
@@ -13,37 +13,6 @@ pub fn same_words(a: &[u32], b: &[u32]) -> bool
     ensures { SameWordsPromise a.now b.now result }
 {
     a == b
-}
-
-// Whether all four words are the same.
-fn same_small(x: Small, y: Small) -> bool
-    ensures { Decides result (x ≡ y) }
-{
-    if x.w0 != y.w0 {
-        return false;
-    }
-    if x.w1 != y.w1 {
-        return false;
-    }
-    if x.w2 != y.w2 {
-        return false;
-    }
-    if x.w3 != y.w3 {
-        return false;
-    }
-    true
-}
-
-// Whether two backends are of one kind and hold the same small words, which is to say that they are equal.
-fn same_backend(x: Backend, y: Backend) -> bool
-    ensures { Decides result (x ≡ y) }
-{
-    let left = kind(x);
-    let right = kind(y);
-    if left != right {
-        return false;
-    }
-    same_small(small_words(x), small_words(y))
 }
 
 // Whether two tables are the same to a backend: the twister's are compared, and no other kind has one.
@@ -61,17 +30,13 @@ fn same_tables(backend: Backend, mt: &[u32; 624], other: &[u32; 624]) -> bool
 pub fn same_in(a: Engine, mt: &[u32; 624], b: Engine, other: &[u32; 624]) -> bool
     ensures { SameInPromise a mt.now b other.now result }
 {
-    let first = a.backend;
-    let second = b.backend;
-    if !same_backend(first, second) {
+    if a.backend != b.backend {
         return false;
     }
-    let here = mti_in(a);
-    let there = mti_in(b);
-    if here != there {
+    if mti_in(a) != mti_in(b) {
         return false;
     }
-    same_tables(first, mt, other)
+    same_tables(a.backend, mt, other)
 }
 
 // Whether two generators are equal.

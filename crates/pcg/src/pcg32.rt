@@ -24,7 +24,7 @@ pub struct Pcg32 {
 fn next_state(state: u64, inc: u64) -> u64
     ensures { result ≡ next_state inc state }
 {
-    std::num::wrapping_add_u64(wrapping::mul_u64(state, MULTIPLIER), inc)
+    state.wrapping_mul(MULTIPLIER).wrapping_add(inc)
 }
 
 // The word that a state gives: XOR-shift-high, then a rotation by the top five bits.
@@ -53,13 +53,14 @@ impl Pcg32 {
     }
 
     // State 0, one step, the seed added, one step; the increment is the stream's.
+    #[tactic(auto, unfolding(crate::specs::Lcg::seeded_state))]
     pub fn from_seed_stream(seed: u64, stream: u64) -> Pcg32
         ensures { Pcg32FromSeedStreamPromise seed stream result }
     {
         let inc = (stream << 1) + 1;
         let first = next_state(0, inc);
         Pcg32 {
-            state: next_state(std::num::wrapping_add_u64(first, seed), inc),
+            state: next_state(first.wrapping_add(seed), inc),
             inc: inc,
         }
     }

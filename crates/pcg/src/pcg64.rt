@@ -74,6 +74,7 @@ impl Pcg64 {
     }
 
     // State 0, one step, the seed added, one step; the increment is the stream's.
+    #[tactic(auto, unfolding(crate::specs::Lcg::seeded_state), using(wrapping::specs::WideLaws::value_wide))]
     pub fn from_seed_stream(seed: Wide, stream: Wide) -> Pcg64
         ensures { Pcg64FromSeedStreamPromise seed stream result }
     {

@@ -4,7 +4,7 @@ const KEY: [u32; 4] = [0x123, 0x234, 0x345, 0x456];
 
 // mt[i] ^ ((mt[i - 1] ^ (mt[i - 1] >> 30)) * factor)
 fn mixed(before: u32, here: u32, factor: u32) -> u32 {
-    here ^ wrapping::mul_u32(before ^ (before >> 30), factor)
+    here ^ (before ^ (before >> 30)).wrapping_mul(factor)
 }
 
 // The place after i; past the last one the first entry takes the last one's word, and the place is 1.

@@ -3,9 +3,9 @@
 use Rattle.std.specs.Prelude.{List, ◌≡◌, ℕ}
 use Rattle.std.proofs.Common.{◌∙◌, ap}
 use Rattle.mersenne_twister.specs.Table as twister
-use Rattle.source.specs.declared.Drawn.{Drawn}
 use Rattle.mersenne_twister.specs.declared.MersenneTwister as twister_type
 use Rattle.mersenne_twister.specs.declared.table.Step.{Step}
+use Rattle.source.specs.declared.Drawn.{Drawn}
 use Rattle.ahead.specs.Ahead.{Holds}
 use Rattle.random.specs.declared.backend.Backend.TheVariants.{MersenneTwister}
 use Rattle.random.specs.declared.backend.Random.{Random}

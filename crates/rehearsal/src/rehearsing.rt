@@ -1,7 +1,5 @@
 // Draws made without their effect: each word is looked at as it comes, and the kind is asked for once, before the loop, so that the next
 // word is worked out meanwhile.
-ghost use Rattle.std.specs.Prelude.{◌≡◌};
-ghost use Rattle.rehearsal.specs.Rehearsal.{tell};
 ghost use Rattle.rehearsal.specs.Kinds.{SourceTold, TwisterTold};
 ghost use Rattle.rehearsal.specs.Promises.{RehearsePromise, RehearseTablePromise};
 
@@ -18,16 +16,6 @@ pub struct Rehearsed {
     pub settled: u32,
 }
 
-fn told(complete: bool, used: u32, settled: u32) -> Rehearsed
-    ensures { result ≡ tell complete used settled }
-{
-    Rehearsed {
-        complete,
-        used,
-        settled,
-    }
-}
-
 // The draws from a generator by value.
 fn source_run<S: Source>(g: S, d: Draws) -> Rehearsed
     ensures { SourceTold S.drawn g d result }
@@ -38,7 +26,11 @@ fn source_run<S: Source>(g: S, d: Draws) -> Rehearsed
     let mut bound = d.first;
     while settled < d.count {
         if d.budget <= used {
-            return told(false, 0, settled);
+            return Rehearsed {
+                complete: false,
+                used: 0,
+                settled,
+            };
         }
         let w = next.next_u32();
         if words::is_good(w.word, bound) {
@@ -48,7 +40,11 @@ fn source_run<S: Source>(g: S, d: Draws) -> Rehearsed
         next = w.next;
         used += 1;
     }
-    told(true, used, settled)
+    Rehearsed {
+        complete: true,
+        used,
+        settled,
+    }
 }
 
 // The draws on the table itself, which they move.
@@ -61,7 +57,11 @@ fn twister_run(mt: &mut [u32; 624], mti: u32, d: Draws) -> Rehearsed
     let mut bound = d.first;
     while settled < d.count {
         if d.budget <= used {
-            return told(false, 0, settled);
+            return Rehearsed {
+                complete: false,
+                used: 0,
+                settled,
+            };
         }
         let s = mersenne_twister::rand_in(mt, at);
         if words::is_good(s.word, bound) {
@@ -71,7 +71,11 @@ fn twister_run(mt: &mut [u32; 624], mti: u32, d: Draws) -> Rehearsed
         at = s.mti;
         used += 1;
     }
-    told(true, used, settled)
+    Rehearsed {
+        complete: true,
+        used,
+        settled,
+    }
 }
 
 // What these draws come to. The table is as it came.

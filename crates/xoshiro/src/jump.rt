@@ -41,6 +41,7 @@ fn xor(x: Xoshiro256PlusPlus, y: Xoshiro256PlusPlus) -> Xoshiro256PlusPlus
 }
 
 // A turn: the state is picked where the bit is 1, and steps.
+#[tactic(auto, unfolding(crate::specs::Jump::turned))]
 fn turn(j: Jumping, i: usize) -> Jumping
     requires { i < 256 }
     ensures { result ≡ turned i j }
@@ -61,6 +62,7 @@ fn turn(j: Jumping, i: usize) -> Jumping
 
 impl Xoshiro256PlusPlus {
     // As many steps on as the authors' jump goes, which they say is 2^128: all 256 turns, from a sum of zeros.
+    #[tactic(auto, unfolding(crate::specs::Jump::jumping, crate::specs::Jump::jumped))]
     pub fn jump(self) -> Xoshiro256PlusPlus
         ensures { XoshiroJumpPromise self result }
     {
@@ -74,10 +76,8 @@ impl Xoshiro256PlusPlus {
             sum: none,
             at: self,
         };
-        let mut i: usize = 0;
-        while i < 256 {
+        for i in 0..256 {
             j = turn(j, i);
-            i += 1;
         }
         j.sum
     }

@@ -30,14 +30,16 @@ impl Xoshiro256PlusPlus {
     }
 
     // The word that this state gives.
+    #[tactic(auto, unfolding(crate::specs::Generator::output))]
     fn word(self) -> u64
         ensures { result ≡ output self }
     {
-        let sum = std::num::wrapping_add_u64(self.s0, self.s3);
-        std::num::wrapping_add_u64(wrapping::rotate_left_u64(sum, 23), self.s0)
+        let sum = self.s0.wrapping_add(self.s3);
+        wrapping::rotate_left_u64(sum, 23).wrapping_add(self.s0)
     }
 
     // The state after this one.
+    #[tactic(auto, unfolding(crate::specs::Generator::stepped))]
     fn step(self) -> Xoshiro256PlusPlus
         ensures { result ≡ stepped self }
     {

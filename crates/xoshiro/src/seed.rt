@@ -13,16 +13,17 @@ const ZERO_SEED: u64 = 0xBAD1_DEAA_5BD1_CAFE;
 fn splitmix64(state: &mut u64) -> u64
     ensures { (state.new ≡ next_state state.old) × (result ≡ mixed (next_state state.old)) }
 {
-    *state = std::num::wrapping_add_u64(*state, 0x9E37_79B9_7F4A_7C15);
+    *state = state.wrapping_add(0x9E37_79B9_7F4A_7C15);
     mix(*state)
 }
 
 // The word that a state of SplitMix64 gives.
+#[tactic(auto, unfolding(crate::specs::SplitMix64::mixed))]
 fn mix(z: u64) -> u64
     ensures { result ≡ mixed z }
 {
-    let y = wrapping::mul_u64(z ^ (z >> 30), 0xBF58_476D_1CE4_E5B9);
-    let x = wrapping::mul_u64(y ^ (y >> 27), 0x94D0_49BB_1331_11EB);
+    let y = (z ^ (z >> 30)).wrapping_mul(0xBF58_476D_1CE4_E5B9);
+    let x = (y ^ (y >> 27)).wrapping_mul(0x94D0_49BB_1331_11EB);
     x ^ (x >> 31)
 }
 
@@ -34,6 +35,7 @@ fn nonzero(seed: u64) -> u64
 }
 
 // The first four words of SplitMix64 from the state `seed`.
+#[tactic(auto, unfolding(crate::specs::Seed::four_words))]
 fn primed(seed: u64) -> Xoshiro256PlusPlus
     ensures { result ≡ four_words seed }
 {

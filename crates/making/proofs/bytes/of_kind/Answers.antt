@@ -22,4 +22,5 @@ pub returns-in_ok-try_into-in_default : goal.returns-in_ok-try_into-in_default
 returns-in_ok-try_into-in_default c =
     let whole = c.in_ok-try_into-in_default.ensures.1 in
     let others = kind_pcg64 c.args.kind c.args.seed.now (λ x. omega arith) (λ t. omega arith) (λ p. omega arith) in
-    (whole.long ∙ sym (long_seed c.args.kind (λ p. omega arith)), rw (c.from_pcg64.ensures, c.from_seed-in_default.ensures, whole.same) others)
+    let long = whole.long ∙ sym (long_seed c.args.kind (λ p. omega arith)) in
+    (long, rw (c.from_pcg64.ensures, c.from_seed-in_default.ensures, whole.same) others)

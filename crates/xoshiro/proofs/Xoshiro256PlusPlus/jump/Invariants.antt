@@ -1,10 +1,7 @@
 -- `jump` meets its contract. The loop's invariant: after i turns the jump has come as far as `jumping i`.
-use Rattle.std.proofs.Common.{◌≡◌, ◌-◌, ◌≤◌}
+use Rattle.std.proofs.Common.{◌≡◌}
 use Rattle.xoshiro.specs.Jump.{jumping}
 use Rattle.xoshiro.proofs.Xoshiro256PlusPlus.jump.Given as goal
 
 abbrev pub invariant-loop-i : goal.invariant-loop-i
-invariant-loop-i l = (l.i ≤ 256) × (l.j ≡ jumping l.i l.initial.j.at)
-
-abbrev pub decreases-loop-i : goal.decreases-loop-i
-decreases-loop-i l = 256 - l.i
+invariant-loop-i l = l.j ≡ jumping l.i l.initial.j.at

@@ -1,5 +1,0 @@
--- `zeros` meets its contract: the two calls, one after the other.
-use Rattle.making.proofs.own_calls.zeros.Goals as goal
-
-pub returns : goal.returns
-returns c = rw (c.from_xoshiro.ensures, c.from_parts.ensures)
