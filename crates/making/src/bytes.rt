@@ -1,14 +1,15 @@
 // Making a generator from a kind number and a byte seed: the one place that refuses with 10 and 11.
-ghost use Rattle.std.specs.Prelude.{◌≡◌, ◌≤◌, length};
+ghost use Rattle.std.specs.Prelude.{◌≡◌, length};
 ghost use Rattle.std.specs.Result.{OkIff};
 ghost use Rattle.making.specs.Make.{seed_length_of, of_kind, making_of, refused_making};
+ghost use Rattle.random.specs.Kinds.{number_of as kind_number};
 ghost use Rattle.words.specs.Numbers.{number_of};
 ghost use Rattle.making.specs.Promises.{MakePromise};
 
 use crate::own_calls::{from_mersenne_twister, from_pcg32, from_pcg64, from_xoshiro, zeros};
 use mersenne_twister::MersenneTwister;
 use pcg::{Pcg32, Pcg64};
-use random::Random;
+use random::{Kind, Random};
 use std::array::TryFromSliceError;
 use words::Refusal;
 use xoshiro::Xoshiro256PlusPlus;
@@ -20,16 +21,17 @@ pub struct Made {
     pub generator: Random,
 }
 
-// The generator of a kind up to 3 from its byte seed, and an error where the seed has not the kind's length.
-fn of_kind(kind: u32, seed: &[u8]) -> Result<Random, TryFromSliceError>
-    requires { kind ≤ 3 }
-    ensures { OkIff result (length seed.now ≡ seed_length_of kind) (of_kind kind seed.now) }
+// The generator of a kind from its byte seed, and an error where the seed has not the kind's length.
+fn of_kind(kind: Kind, seed: &[u8]) -> Result<Random, TryFromSliceError>
+    ensures { OkIff result (length seed.now ≡ seed_length_of (kind_number kind)) (of_kind (kind_number kind) seed.now) }
 {
     Ok(match kind {
-        0 => from_xoshiro(Xoshiro256PlusPlus::from_seed(seed.try_into()?)),
-        1 => from_mersenne_twister(MersenneTwister::from_seed(seed.try_into()?)),
-        2 => from_pcg32(Pcg32::from_seed(seed.try_into()?)),
-        _ => from_pcg64(Pcg64::from_seed(seed.try_into()?)),
+        Kind::Xoshiro256PlusPlus => from_xoshiro(Xoshiro256PlusPlus::from_seed(seed.try_into()?)),
+        Kind::MersenneTwister => {
+            from_mersenne_twister(MersenneTwister::from_seed(seed.try_into()?))
+        }
+        Kind::Pcg32 => from_pcg32(Pcg32::from_seed(seed.try_into()?)),
+        Kind::Pcg64 => from_pcg64(Pcg64::from_seed(seed.try_into()?)),
     })
 }
 
@@ -37,9 +39,9 @@ fn of_kind(kind: u32, seed: &[u8]) -> Result<Random, TryFromSliceError>
 pub fn make(kind: u32, seed: &[u8]) -> Made
     ensures { MakePromise kind seed.now (making_of result) }
 {
-    if kind > 3 {
+    let Ok(kind) = Kind::try_from(kind) else {
         return refused_making(Refusal::Kind);
-    }
+    };
     match of_kind(kind, seed) {
         Ok(generator) => Made {
             refusal: None,

@@ -1,5 +1,6 @@
 -- A generator's kind, its twister's position and twist, and its split.
 pub mod Kind
+pub mod KindLaws
 pub mod Position
 pub mod Decides
 pub mod OwnParts

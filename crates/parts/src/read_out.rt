@@ -17,12 +17,7 @@ pub struct Small {
 pub fn kind(backend: Backend) -> u32
     ensures { KindPromise backend result }
 {
-    match backend {
-        Backend::Xoshiro256PlusPlus(_) => 0,
-        Backend::MersenneTwister => 1,
-        Backend::Pcg32(_) => 2,
-        Backend::Pcg64(_) => 3,
-    }
+    backend.kind().number()
 }
 
 // The small words of its kind.

@@ -1,6 +1,8 @@
 -- Each promise leaves one answer: two that both meet it are equal.
 use Rattle.std.specs.Prelude.{Bool, List, ◌≡◌, ℕ, ℤ}
 use Rattle.std.proofs.Common.{sym, ◌∙◌}
+use Rattle.random.specs.declared.kind.Kind.{Kind}
+use Rattle.random.specs.Promises.{BackendKindPromise, KindNumberPromise}
 use Rattle.random.specs.LentLaws.{word_apart}
 use Rattle.random.specs.Promises.{EngineOfPromise, EngineWithPromise, I64Promise, NextOwnPromise, NextReadyPromise}
 use Rattle.random.specs.Promises.{NextU32Promise, NextU64Promise, OnTablePromise, PseudoInPromise, PseudoPromise}
@@ -59,3 +61,9 @@ one_surely_ready e p q = p ∙ sym q
 
 pub one_on_table : (backend : Backend) {a b : Bool} → OnTablePromise backend a → OnTablePromise backend b → a ≡ b
 one_on_table backend p q = p ∙ sym q
+
+pub one_kind_number : (k : Kind) {a b : ℕ} → KindNumberPromise k a → KindNumberPromise k b → a ≡ b
+one_kind_number k p q = p ∙ sym q
+
+pub one_backend_kind : (b : Backend) {k l : Kind} → BackendKindPromise b k → BackendKindPromise b l → k ≡ l
+one_backend_kind b p q = p ∙ sym q

@@ -14,7 +14,8 @@ pub enum Backend {
     Pcg64(Pcg64),
 }
 
-#[derive(Clone, Copy, PartialEq, Eq, Debug)]
+// It has no `==`: two generators are equal by their kind's own parts (`parts::same`), and a table that is not used may differ.
+#[derive(Clone, Copy, Debug)]
 pub struct Random {
     pub backend: Backend,
     pub twister: MersenneTwister,

@@ -6,8 +6,8 @@ ghost use Rattle.random.specs.Promises.{EngineWithPromise};
 use crate::backend::Backend;
 use source::Drawn;
 
-// All of a generator but the table.
-#[derive(Clone, Copy, PartialEq, Eq, Debug)]
+// All of a generator but the table. It has no `==`: kinds other than the twister leave the position unused.
+#[derive(Clone, Copy, Debug)]
 pub struct Engine {
     pub backend: Backend,
     pub mti: u32,

@@ -1,5 +1,5 @@
 -- Where draws from a generator stand after some of its words: with one law for a word more, and what a rehearsal says at the end.
-use Rattle.std.specs.Prelude.{◌≡◌, Bool, true, false, ◌⊎◌, ℕ, ◌+◌, ◌≤◌, ◌<◌, length}
+use Rattle.std.specs.Prelude.{◌≡◌, Bool, true, false, ◌⊎◌, ℕ, ◌+◌, ◌≤◌, ◌<◌, length, Some, None}
 use Rattle.std.proofs.Common.{sym, ◌∙◌, ap, inl, inr, arith}
 use Rattle.words.specs.Draw.{Words, good}
 use Rattle.random.specs.declared.backend.Random.{Random}
@@ -31,13 +31,13 @@ standing_start d g = record {
 
 module _ {g cur : Random} {d : Draws} {n k : ℕ} (h : Standing g d n k cur) where
   -- All draws are settled,
-  pub standing_all : d.count ≤ k → tell true n k ≡ rehearsed_of (draws_of (words_of g) d)
+  pub standing_all : d.count ≤ k → tell (Some n) k ≡ rehearsed_of (draws_of (words_of g) d)
   standing_all m =
       let settled = h.settled in
       rw (rehearsing_done (words_of g) d.first d.falls d.count d.budget n h.rehearsing (omega arith), settled)
 
   -- or the budget is used up.
-  pub standing_short : k < d.count → d.budget ≤ n → tell false 0 k ≡ rehearsed_of (draws_of (words_of g) d)
+  pub standing_short : k < d.count → d.budget ≤ n → tell None k ≡ rehearsed_of (draws_of (words_of g) d)
   standing_short m out =
       let settled = h.settled in
       rw (rehearsing_out (words_of g) d.first d.falls d.count d.budget n h.rehearsing (omega arith) out, settled)

@@ -8,11 +8,10 @@ use crate::turns::Draws;
 use random::{Backend, Engine};
 use source::Source;
 
-// Whether all draws are settled, the words that they use (0 where they are not all settled), and how many of them are settled.
-#[derive(Clone, Copy)]
+// The words that all draws use, where the budget settles them all, and how many of them it settles.
+#[derive(Clone, Copy, Debug, PartialEq, Eq)]
 pub struct Rehearsed {
-    pub complete: bool,
-    pub used: u32,
+    pub used: Option<u32>,
     pub settled: u32,
 }
 
@@ -27,8 +26,7 @@ fn source_run<S: Source>(g: S, d: Draws) -> Rehearsed
     while settled < d.count {
         if d.budget <= used {
             return Rehearsed {
-                complete: false,
-                used: 0,
+                used: None,
                 settled,
             };
         }
@@ -41,8 +39,7 @@ fn source_run<S: Source>(g: S, d: Draws) -> Rehearsed
         used += 1;
     }
     Rehearsed {
-        complete: true,
-        used,
+        used: Some(used),
         settled,
     }
 }
@@ -58,8 +55,7 @@ fn twister_run(mt: &mut [u32; 624], mti: u32, d: Draws) -> Rehearsed
     while settled < d.count {
         if d.budget <= used {
             return Rehearsed {
-                complete: false,
-                used: 0,
+                used: None,
                 settled,
             };
         }
@@ -72,8 +68,7 @@ fn twister_run(mt: &mut [u32; 624], mti: u32, d: Draws) -> Rehearsed
         used += 1;
     }
     Rehearsed {
-        complete: true,
-        used,
+        used: Some(used),
         settled,
     }
 }

@@ -1,7 +1,7 @@
 -- What the shuffle over a lent table owes, by its ways out.
-use Rattle.std.specs.Prelude.{◌≡◌, Bool, true, false, List, ℕ, ◌≤◌, ◌<◌, length}
+use Rattle.std.specs.Prelude.{◌≡◌, List, ℕ, Option, Some, None, ◌≤◌, ◌<◌, length}
 use Rattle.std.proofs.Math.Path.{sym, ap}
-use Rattle.std.proofs.Common.{◌∙◌, true≢false}
+use Rattle.std.proofs.Common.{◌∙◌}
 use Rattle.words.specs.Refusal.{answered, too_long, out_of_budget}
 use Rattle.words.specs.declared.outcome.Outcome.{Outcome}
 use Rattle.words.specs.Draw.{Words, Drawn, all, short, refused, gives, outcome_of}
@@ -31,28 +31,28 @@ module _ (s : Words) (n budget : ℕ) where
 
   -- or its draws are rehearsed,
   module _ {d : Rehearsed} (fits : n ≤ list_limit) (told : d ≡ rehearsed_of (draws_of s (shuffle_draws n budget))) where
-    by_rehearsal : {o : Outcome} {b : Bool} → d.complete ≡ b
-        → ((drawn : Drawn) → d ≡ rehearsed_of drawn → (rehearsed_of drawn).complete ≡ b → o ≡ outcome_of (λ places. 0) drawn)
+    by_rehearsal : {o : Outcome} {u : Option ℕ} → d.used ≡ u
+        → ((drawn : Drawn) → (rehearsed_of drawn).used ≡ u → o ≡ outcome_of (λ places. 0) drawn)
         → o ≡ shuffle_by s n budget
     by_rehearsal q said =
         let same : d ≡ rehearsed_of (places_drawn s n budget) = rw (draws_fit n budget fits) at told in
-        said (places_drawn s n budget) same (sym (ap (λ (x : Rehearsed). x.complete) same) ∙ q) ∙ sym (shuffle_drawn s budget n fits)
+        said (places_drawn s n budget) (sym (ap (λ (x : Rehearsed). x.used) same) ∙ q) ∙ sym (shuffle_drawn s budget n fits)
 
     -- and all are settled,
-    pub outcome_all : {o : Outcome} → d.complete ≡ true → o ≡ gives 0 d.used → o ≡ shuffle_by s n budget
-    outcome_all {o} q p = by_rehearsal q go
+    pub outcome_all : {o : Outcome} {used : ℕ} → d.used ≡ Some used → o ≡ gives 0 used → o ≡ shuffle_by s n budget
+    outcome_all {o} {used} q p = by_rehearsal q go
       where
-        go : (drawn : Drawn) → d ≡ rehearsed_of drawn → (rehearsed_of drawn).complete ≡ true → o ≡ outcome_of (λ places. 0) drawn
-        go (all places used) e c = p ∙ ap (λ (x : Rehearsed). gives 0 x.used) e
-        go (short m) e c = absurd (true≢false (sym c))
+        go : (drawn : Drawn) → (rehearsed_of drawn).used ≡ Some used → o ≡ outcome_of (λ places. 0) drawn
+        go (all places m) c = let same : used ≡ m = cc in p ∙ ap (gives 0) same
+        go (short m) c = cc
 
     -- or not.
-    pub outcome_short : {o : Outcome} → d.complete ≡ false → o ≡ refused out_of_budget → o ≡ shuffle_by s n budget
+    pub outcome_short : {o : Outcome} → d.used ≡ None → o ≡ refused out_of_budget → o ≡ shuffle_by s n budget
     outcome_short {o} q p = by_rehearsal q go
       where
-        go : (drawn : Drawn) → d ≡ rehearsed_of drawn → (rehearsed_of drawn).complete ≡ false → o ≡ outcome_of (λ places. 0) drawn
-        go (all places used) e c = absurd (true≢false c)
-        go (short m) e c = p
+        go : (drawn : Drawn) → (rehearsed_of drawn).used ≡ None → o ≡ outcome_of (λ places. 0) drawn
+        go (all places used) c = cc
+        go (short m) c = p
 
 -- ---- and the call that goes by it
 

@@ -21,11 +21,10 @@ pub fn outcome_in(
         return Err(Refusal::TooLong);
     }
     let d = rehearsal::rehearse(draws_of(n, budget), e, mt);
-    if d.complete {
-        let used = d.used;
-        return Ok(Given { value: (), used });
+    match d.used {
+        Some(used) => Ok(Given { value: (), used }),
+        None => Err(Refusal::Budget),
     }
-    Err(Refusal::Budget)
 }
 
 // The list in an order drawn at random. Where it is refused, list and table are as they came.
