@@ -1,4 +1,4 @@
-// Any of the small generators as a source of its own words, so that one loop compares them all.
+// Any of the small generators as an iterator over its own words, so that one function compares them all.
 use pcg::{Pcg32, Pcg64};
 use xoshiro::Xoshiro256PlusPlus;
 
@@ -9,38 +9,25 @@ pub(crate) enum Source {
     OfXoshiro(Xoshiro256PlusPlus),
 }
 
-#[derive(Clone, Copy)]
-pub(crate) struct Given {
-    pub(crate) word: u64,
-    pub(crate) next: Source,
-}
+impl Iterator for Source {
+    type Item = u64;
 
-// The next word of the source's own width, and the source after it.
-pub(crate) fn next_word(s: Source) -> Given {
-    match s {
-        Source::OfPcg32(g) => {
-            let d = g.next_u32();
-            let next = d.next;
-            Given {
-                word: d.word as u64,
-                next: Source::OfPcg32(next),
+    fn next(&mut self) -> Option<u64> {
+        let (word, after) = match *self {
+            Source::OfPcg32(g) => {
+                let d = g.next_u32();
+                (u64::from(d.word), Source::OfPcg32(d.next))
             }
-        }
-        Source::OfPcg64(g) => {
-            let d = g.next_u64();
-            let next = d.next;
-            Given {
-                word: d.word,
-                next: Source::OfPcg64(next),
+            Source::OfPcg64(g) => {
+                let d = g.next_u64();
+                (d.word, Source::OfPcg64(d.next))
             }
-        }
-        Source::OfXoshiro(g) => {
-            let d = g.next_u64();
-            let next = d.next;
-            Given {
-                word: d.word,
-                next: Source::OfXoshiro(next),
+            Source::OfXoshiro(g) => {
+                let d = g.next_u64();
+                (d.word, Source::OfXoshiro(d.next))
             }
-        }
+        };
+        *self = after;
+        Some(word)
     }
 }
