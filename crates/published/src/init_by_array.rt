@@ -7,49 +7,34 @@ fn mixed(before: u32, here: u32, factor: u32) -> u32 {
     here ^ (before ^ (before >> 30)).wrapping_mul(factor)
 }
 
-// The place after i; past the last one the first entry takes the last one's word, and the place is 1.
-fn next_place(mt: &mut [u32; 624], i: usize) -> usize {
-    if i < 623 {
-        return i + 1;
-    }
-    mt[0] = mt[623];
-    1
+// A word of the first loop, with the key's entry of its turn added, and the entry's place.
+fn with_key(before: u32, here: u32, turn: usize) -> u32 {
+    let j = turn % 4;
+    mixed(before, here, 1664525)
+        .wrapping_add(KEY[j])
+        .wrapping_add(j as u32)
 }
 
-// One turn of the first loop, at the place i, with the key's entry j added.
-fn add_key(mt: &mut [u32; 624], i: usize, j: usize) {
-    if i == 0 {
-        return;
-    }
-    if 624 <= i {
-        return;
-    }
-    let x = mixed(mt[i - 1], mt[i], 1664525);
-    mt[i] = x.wrapping_add(KEY[j % 4]).wrapping_add((j % 4) as u32);
+// A word of the second loop, with its place taken off.
+fn without_place(before: u32, here: u32, place: u32) -> u32 {
+    mixed(before, here, 1566083941).wrapping_sub(place)
 }
 
-// One turn of the second loop, at the place i.
-fn take_place(mt: &mut [u32; 624], i: usize) {
-    if i == 0 {
-        return;
-    }
-    if 624 <= i {
-        return;
-    }
-    let x = mixed(mt[i - 1], mt[i], 1566083941);
-    mt[i] = x.wrapping_sub(i as u32);
-}
-
+// Both loops go past the last place to place 1. The first entry then has the last one's word: so the word before is always the one that
+// was made last.
 pub(crate) fn init_by_array(mt: &mut [u32; 624]) {
     mersenne_twister::seed_in(mt, 19650218);
-    let mut i: usize = 1;
-    for k in 0..624 {
-        add_key(mt, i, k);
-        i = next_place(mt, i);
+    let mut before = mt[0];
+    for (turn, word) in mt[1..].iter_mut().enumerate() {
+        before = with_key(before, *word, turn);
+        *word = before;
     }
-    for _ in 0..623 {
-        take_place(mt, i);
-        i = next_place(mt, i);
+    before = with_key(before, mt[1], 623);
+    mt[1] = before;
+    for (word, place) in mt[2..].iter_mut().zip(2u32..) {
+        before = without_place(before, *word, place);
+        *word = before;
     }
+    mt[1] = without_place(before, mt[1], 1);
     mt[0] = 0x8000_0000;
 }

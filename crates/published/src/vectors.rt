@@ -1,7 +1,7 @@
 // What others published or print. Each list says where it comes from.
 
 // O'Neill's pcg32-demo, seed 42 and stream 54, round 1; libpcg-cpp prints the same.
-pub(crate) const PCG32_DEMO: [u32; 6] = [
+pub(crate) const PCG32_DEMO: [u64; 6] = [
     0xa15c02b7, 0x7b47f409, 0xba1d3330, 0x83d2f293, 0xbfa4784b, 0xcbed606e,
 ];
 

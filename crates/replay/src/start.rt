@@ -5,82 +5,68 @@ use crate::runs;
 use crate::sample::{Row, halves};
 use mersenne_twister::MersenneTwister;
 use pcg::{Pcg32, Pcg64};
-use random::Random;
+use random::{Kind, Random};
 use wrapping::Wide;
 use xoshiro::Xoshiro256PlusPlus;
 
-#[derive(Clone, Copy)]
-enum Kind {
-    Xoshiro256PlusPlus,
-    MersenneTwister,
-    Pcg32,
-    Pcg64,
+// The kind of a row's number; what is above 3 stands for the last.
+fn kind_of(number: u32) -> Kind {
+    Kind::try_from(number).unwrap_or(Kind::Pcg64)
 }
 
-impl Kind {
-    fn numbered(number: u32) -> Kind {
-        match number {
-            0 => Kind::Xoshiro256PlusPlus,
-            1 => Kind::MersenneTwister,
-            2 => Kind::Pcg32,
-            _ => Kind::Pcg64,
+// A seed of 64 bits, or of 128, the low half first.
+fn of_seed(kind: Kind, low: u64, high: u64) -> Random {
+    match kind {
+        Kind::Xoshiro256PlusPlus => making::from_u64_seed(low),
+        Kind::MersenneTwister => making::new_mersenne_twister_with_seed(halves(low).0),
+        Kind::Pcg32 => making::new_pcg32_with_seed(low),
+        Kind::Pcg64 => making::new_pcg64_with_seed(Wide { high, low }),
+    }
+}
+
+// The same with a stream.
+fn of_stream(kind: Kind, numbers: [u64; 4]) -> Random {
+    let [low, high, stream_low, stream_high] = numbers;
+    match kind {
+        Kind::Pcg32 => making::new_pcg32_with_stream(low, stream_low),
+        _ => {
+            let stream = Wide {
+                high: stream_high,
+                low: stream_low,
+            };
+            making::new_pcg64_with_stream(Wide { high, low }, stream)
         }
     }
+}
 
-    // A seed of 64 bits, or of 128, the low half first.
-    fn of_seed(self, low: u64, high: u64) -> Random {
-        match self {
-            Kind::Xoshiro256PlusPlus => making::from_u64_seed(low),
-            Kind::MersenneTwister => making::new_mersenne_twister_with_seed(halves(low).0),
-            Kind::Pcg32 => making::new_pcg32_with_seed(low),
-            Kind::Pcg64 => making::new_pcg64_with_seed(Wide { high, low }),
+// Four numbers of 64 bits; a number of 128 bits has its high one first. The twister's table is that of a seed.
+fn of_parts(kind: Kind, numbers: [u64; 4]) -> Random {
+    let [a, b, c, d] = numbers;
+    match kind {
+        Kind::Xoshiro256PlusPlus => {
+            making::from_xoshiro(Xoshiro256PlusPlus::from_parts(a, b, c, d))
+        }
+        Kind::MersenneTwister => {
+            let (seed, mti) = halves(a);
+            let mt = MersenneTwister::from_u32_seed(seed).mt;
+            making::from_mersenne_twister(MersenneTwister::from_parts(mt, mti))
+        }
+        Kind::Pcg32 => making::from_pcg32(Pcg32::from_parts(a, b)),
+        Kind::Pcg64 => {
+            let state = Wide { high: a, low: b };
+            let inc = Wide { high: c, low: d };
+            making::from_pcg64(Pcg64::from_parts(state, inc))
         }
     }
+}
 
-    // The same with a stream.
-    fn of_stream(self, numbers: [u64; 4]) -> Random {
-        let [low, high, stream_low, stream_high] = numbers;
-        match self {
-            Kind::Pcg32 => making::new_pcg32_with_stream(low, stream_low),
-            _ => {
-                let stream = Wide {
-                    high: stream_high,
-                    low: stream_low,
-                };
-                making::new_pcg64_with_stream(Wide { high, low }, stream)
-            }
-        }
-    }
-
-    // Four numbers of 64 bits; a number of 128 bits has its high one first. The twister's table is that of a seed.
-    fn of_parts(self, numbers: [u64; 4]) -> Random {
-        let [a, b, c, d] = numbers;
-        match self {
-            Kind::Xoshiro256PlusPlus => {
-                making::from_xoshiro(Xoshiro256PlusPlus::from_parts(a, b, c, d))
-            }
-            Kind::MersenneTwister => {
-                let (seed, mti) = halves(a);
-                let mt = MersenneTwister::from_u32_seed(seed).mt;
-                making::from_mersenne_twister(MersenneTwister::from_parts(mt, mti))
-            }
-            Kind::Pcg32 => making::from_pcg32(Pcg32::from_parts(a, b)),
-            Kind::Pcg64 => {
-                let state = Wide { high: a, low: b };
-                let inc = Wide { high: c, low: d };
-                making::from_pcg64(Pcg64::from_parts(state, inc))
-            }
-        }
-    }
-
-    // How many bytes a seed has.
-    fn seed_length(self) -> usize
-        ensures { result ≤ 32 }
-    {
-        match self {
-            Kind::Pcg32 => 16,
-            _ => 32,
-        }
+// How many bytes a seed has.
+fn seed_length(kind: Kind) -> usize
+    ensures { result ≤ 32 }
+{
+    match kind {
+        Kind::Pcg32 => 16,
+        _ => 32,
     }
 }
 
@@ -96,18 +82,18 @@ fn bytes_of(numbers: [u64; 4]) -> [u8; 32] {
 // The kind's bytes of the eight words.
 fn of_bytes(row: &Row) -> Random {
     let seed = bytes_of(row.numbers);
-    let length = Kind::numbered(row.kind).seed_length();
+    let length = seed_length(kind_of(row.kind));
     making::make(row.kind, &seed[..length]).generator
 }
 
 // What a row's maker number says.
 fn made(row: &Row) -> Random {
-    let kind = Kind::numbered(row.kind);
+    let kind = kind_of(row.kind);
     match row.maker {
-        0 => kind.of_seed(row.numbers[0], row.numbers[1]),
-        1 => kind.of_stream(row.numbers),
+        0 => of_seed(kind, row.numbers[0], row.numbers[1]),
+        1 => of_stream(kind, row.numbers),
         2 => of_bytes(row),
-        _ => kind.of_parts(row.numbers),
+        _ => of_parts(kind, row.numbers),
     }
 }
 

@@ -1,25 +1,17 @@
 -- A number out of its decimal digits: the digits from the left, each worth ten times the next; nothing but digits, at least one, and a
 -- number of 64 bits.
-use Rattle.std.specs.Prelude.{ℕ, ◌+◌, ◌-◌, ◌*◌, ◌^◌, Bool, true, false, cond, List, [], ◌∷◌, nat_le, nat_lt}
-use Rattle.week.specs.declared.decimal.Digits.{Digits}
+use Rattle.std.specs.Prelude.{ℕ, ◌+◌, ◌-◌, ◌*◌, ◌^◌, ◌==◌, cond, List, [], ◌∷◌, length, Option, Some, None, nat_lt}
+use Rattle.std.specs.Char.{is_ascii_digit}
 
-abbrev pub no_number : Digits
-no_number = record { valid = false; number = 0 }
-
--- '0' is 48, and '9' is 57
-abbrev pub is_digit : ℕ → Bool
-is_digit byte = cond (nat_le 48 byte) (nat_le byte 57) false
-
--- the number with one digit more
+-- the number with one digit more: '0' is 48
 abbrev pub with_digit : ℕ → ℕ → ℕ
 with_digit n byte = n * 10 + (byte - 48)
 
 -- the number n with these digits more
-unfoldable pub read_on : ℕ → List ℕ → Digits
-read_on n [] = record { valid = true; number = n }
+unfoldable pub read_on : ℕ → List ℕ → Option ℕ
+read_on n [] = Some n
 read_on n (byte ∷ rest) =
-    cond (is_digit byte) (cond (nat_lt (with_digit n byte) (2 ^ 64)) (read_on (with_digit n byte) rest) no_number) no_number
+    cond (is_ascii_digit byte) (cond (nat_lt (with_digit n byte) (2 ^ 64)) (read_on (with_digit n byte) rest) None) None
 
-unfoldable pub read_number : List ℕ → Digits
-read_number [] = no_number
-read_number (byte ∷ rest) = read_on 0 (byte ∷ rest)
+unfoldable pub read_number : List ℕ → Option ℕ
+read_number text = cond (length text == 0) None (read_on 0 text)

@@ -40,13 +40,11 @@ fn main(rt: HostRuntime) -> io::Result<()> {
         return run(&rt, shown);
     }
     let stderr = rt.stderr();
-    let asked = arguments::from_arguments(&rt, &stderr);
-    if asked.bad {
+    let Some(job) = arguments::from_arguments(&rt, &stderr) else {
         return report::write_usage(&stderr);
-    }
-    if asked.job.seed == 0 {
+    };
+    if job.seed == 0 {
         report::warn_of_seed_zero(&stderr);
     }
-    let job = asked.job;
     run(&rt, job)
 }

@@ -1,31 +1,45 @@
 -- `read_number` meets its contract: the invariant is `Reading`.
-use Rattle.std.proofs.Common.{◌∙◌, arith}
-use Rattle.week.specs.DecimalLaws.{reading_nothing, reading_start, reading_done}
-use Rattle.week.specs.DecimalLaws.{reading_low, reading_high, reading_over, reading_on}
+use Rattle.std.proofs.Common.{ℕ, ◌≡◌, ◌+◌, ◌^◌, ◌<◌, ◌∙◌, arith, subst, slice_index}
+use Rattle.week.specs.Decimal.{with_digit}
+use Rattle.week.specs.DecimalLaws.{Reading, reading_nothing, reading_start, reading_done, reading_other, reading_over, reading_on}
 use Rattle.week.proofs.decimal.read_number.Goals as goal
 
-pub returns-then-text-eq0 : goal.returns-then-text-eq0
-returns-then-text-eq0 c = c.no_number.ensures ∙ reading_nothing _ c.if-text-eq0.true
+pub returns-then-is_empty : goal.returns-then-is_empty
+returns-then-is_empty c = reading_nothing _ c.if-is_empty.ensures
 
-pub loop-i-init : goal.loop-i-init
-loop-i-init c = reading_start _ c.if-text-eq0.false
+pub loop-byte-init : goal.loop-byte-init
+loop-byte-init c = reading_start _ c.if-is_empty.ensures
 
-pub returns-then-byte-lt48 : goal.returns-then-byte-lt48
-returns-then-byte-lt48 c =
-    c.no_number-then-byte-lt48.ensures ∙ reading_low c.loop-i.invariant c.loop-i-test.true c.if-byte-lt48.true
+pub returns-then-not-is_ascii_digit : goal.returns-then-not-is_ascii_digit
+returns-then-not-is_ascii_digit c =
+    reading_other c.loop-byte.invariant c.loop-byte-test.true c.if-not-is_ascii_digit.ensures.value
 
-pub returns-then-byte-gt57 : goal.returns-then-byte-gt57
-returns-then-byte-gt57 c =
-    c.no_number-then-byte-gt57.ensures ∙ reading_high c.loop-i.invariant c.loop-i-test.true c.if-byte-gt57.true
+pub returns-in_err-checked_mul : goal.returns-in_err-checked_mul
+returns-in_err-checked_mul c =
+    c.from_residual.ensures
+    ∙ reading_over
+    c.loop-byte.invariant
+    c.loop-byte-test.true
+    c.if-not-is_ascii_digit.ensures.value
+    (omega (arith, c.in_err-checked_mul.ensures))
 
-pub returns-then-number-digit : goal.returns-then-number-digit
-returns-then-number-digit c =
-    c.no_number-then-number-digit.ensures
-    ∙ reading_over c.loop-i.invariant c.loop-i-test.true c.if-byte-lt48.false c.if-byte-gt57.false (omega arith)
+pub returns-in_err-number : goal.returns-in_err-number
+returns-in_err-number c =
+    c.from_residual-in_err-number.ensures
+    ∙ reading_over
+    c.loop-byte.invariant
+    c.loop-byte-test.true
+    c.if-not-is_ascii_digit.ensures.value
+    (omega (arith, c.in_err-number.ensures, c.in_ok-checked_mul.ensures, c.from-digit.ensures))
 
-pub loop-i-preserved : goal.loop-i-preserved
-loop-i-preserved c =
-    reading_on c.loop-i.invariant c.loop-i-test.true c.if-byte-lt48.false c.if-byte-gt57.false (omega arith)
+pub loop-byte-preserved : goal.loop-byte-preserved
+loop-byte-preserved c =
+    let P : ℕ → Type 0 = λ n. Reading c.args.text.now n (c.loop-byte.byte-index + 1) in
+    let e : with_digit c.loop-byte.number (slice_index c.args.text.now c.loop-byte.byte-index) ≡ c.in_ok-number.number =
+    omega (arith, c.in_ok-number.ensures, c.in_ok-checked_mul.ensures, c.from-digit.ensures) in
+    let fits : with_digit c.loop-byte.number (slice_index c.args.text.now c.loop-byte.byte-index) < 2 ^ 64 =
+    omega (arith, c.in_ok-number.ensures, c.in_ok-checked_mul.ensures, c.from-digit.ensures) in
+    subst P e (reading_on c.loop-byte.invariant c.loop-byte-test.true c.if-not-is_ascii_digit.ensures.value fits)
 
 pub returns : goal.returns
-returns c = reading_done c.loop-i.invariant c.loop-i-test.false
+returns c = reading_done c.loop-byte.invariant c.loop-byte-test.false
