@@ -1,5 +1,4 @@
-// A generator written to a state. What its kind does not use stays as it came: the position too, of which the twister alone has use. The
-// array is written whole, since the prover can't read single stores back; the compiler leaves out the words that stay.
+// A generator written to a state. What its kind does not use stays as it came: the position too, of which the twister alone has use.
 ghost use Rattle.lent_state.specs.Promises.{PutSmallPromise, PutPositionPromise, WritePromise};
 ghost use Rattle.lent_state.specs.Promises.{LentSettlePromise, LentBeginPromise};
 
@@ -10,14 +9,14 @@ use words::refusal;
 pub fn put_small(a: u64, b: u64, c: u64, d: u64, state: &mut [u64; 6])
     ensures { PutSmallPromise state.old a b c d state.new }
 {
-    *state = [state[0], state[1], a, b, c, d];
+    state[2..].copy_from_slice(&[a, b, c, d]);
 }
 
 // Another position.
 pub fn put_position(mti: u32, state: &mut [u64; 6])
     ensures { PutPositionPromise state.old mti state.new }
 {
-    *state = [state[0], mti as u64, state[2], state[3], state[4], state[5]];
+    state[1] = mti as u64;
 }
 
 // An engine of any kind.
@@ -25,26 +24,23 @@ pub fn put_position(mti: u32, state: &mut [u64; 6])
 pub fn write(e: Engine, state: &mut [u64; 6])
     ensures { WritePromise e state.old state.new }
 {
-    let mti = e.mti as u64;
     match e.backend {
         Backend::Xoshiro256PlusPlus(x) => {
-            *state = [0, state[1], x.s0, x.s1, x.s2, x.s3];
+            state[0] = 0;
+            state[2..].copy_from_slice(&[x.s0, x.s1, x.s2, x.s3]);
         }
         Backend::MersenneTwister => {
-            *state = [1, mti, state[2], state[3], state[4], state[5]];
+            state[0] = 1;
+            state[1] = e.mti as u64;
         }
         Backend::Pcg32(p) => {
-            *state = [2, state[1], p.state, p.inc, state[4], state[5]];
+            state[0] = 2;
+            state[2] = p.state;
+            state[3] = p.inc;
         }
         Backend::Pcg64(p) => {
-            *state = [
-                3,
-                state[1],
-                p.state.high,
-                p.state.low,
-                p.inc.high,
-                p.inc.low,
-            ];
+            state[0] = 3;
+            state[2..].copy_from_slice(&[p.state.high, p.state.low, p.inc.high, p.inc.low]);
         }
     }
 }
@@ -64,6 +60,6 @@ pub fn settle(refused: u32, e: Engine, state: &mut [u64; 6])
 pub fn begin(e: Engine, state: &mut [u64; 6])
     ensures { LentBeginPromise e state.new }
 {
-    *state = [0, 0, 0, 0, 0, 0];
+    *state = [0; 6];
     write(e, state);
 }
