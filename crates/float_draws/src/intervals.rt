@@ -37,9 +37,9 @@ pub fn uniform(g: Random, i: Interval) -> Spread<Random>
 {
     let mut moved = g;
     let d = uniform_in(engine_of(g), &mut moved.twister.mt, i);
-    let e = d.next;
-    let mt = moved.twister.mt;
-    let next = with_table(e, mt);
-    let answer = d.answer;
-    Spread { answer, next }
+    let next = with_table(d.next, moved.twister.mt);
+    Spread {
+        answer: d.answer,
+        next,
+    }
 }

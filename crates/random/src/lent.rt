@@ -72,7 +72,7 @@ pub fn pseudo_in(e: Engine, mt: &mut [u32; 624]) -> Drawn<u32, Engine>
 {
     let mut next = e;
     let mut word: u32 = 0;
-    for n in 0..32u32 {
+    for _n in 0..32u32 {
         let d = next_u32(next, mt);
         word ^= d.word;
         next = d.next;

@@ -10,4 +10,4 @@ pub loop-n-preserved : goal.loop-n-preserved
 loop-n-preserved c =
     let loop = c.loop-n in
     let drawn = c.next_u32-d in
-    xored_more _ loop.n loop.word (joined_with loop.next loop.mt) (joined_word drawn.result drawn.new.mt) loop.invariant drawn.ensures
+    xored_more _ loop._n loop.word (joined_with loop.next loop.mt) (joined_word drawn.result drawn.new.mt) loop.invariant drawn.ensures
