@@ -18,11 +18,11 @@ pub record Total : Type 0 where
   pub next : Random
 
 -- one draw below r
-abbrev pub one_draw : (r budget : ℕ) → Random → Answer
+abbrev pub one_draw : (r budget : ℕ) → Random → Answer Random
 one_draw r budget g = answers.answer_from g (bounded_by (words_of g) r budget)
 
 -- a draw more
-abbrev pub plus : Total → Answer → Total
+abbrev pub plus : Total → Answer Random → Total
 plus t a = record { sum = (t.sum + a.value) % 2 ^ 64; used = (t.used + a.used) % 2 ^ 64; next = a.next }
 
 -- n draws

@@ -36,8 +36,8 @@ fn draws_row(e: Engine, mt: &mut [u32; 624], r: u32, budget: u32, n: u64) -> Eng
     for _i in 0..n {
         let a = bounded::bounded_in(next, mt, r, budget);
         let o = words::numbered(a.told);
-        sum = sum.wrapping_add(u64::from(o.value));
-        used = used.wrapping_add(u64::from(o.used));
+        sum = sum.wrapping_add(o.value as u64);
+        used = used.wrapping_add(o.used as u64);
         next = a.next;
     }
     EngineSums { next, sum, used }

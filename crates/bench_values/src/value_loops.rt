@@ -76,8 +76,8 @@ fn draws_by_value(g: Random, r: u32, budget: u32, n: u64) -> RandomSums
     for _i in 0..n {
         let a = bounded::bounded(next, r, budget);
         let o = words::numbered(a.told);
-        sum = sum.wrapping_add(u64::from(o.value));
-        used = used.wrapping_add(u64::from(o.used));
+        sum = sum.wrapping_add(o.value as u64);
+        used = used.wrapping_add(o.used as u64);
         next = a.next;
     }
     RandomSums { sum, used, next }

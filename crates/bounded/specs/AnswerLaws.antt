@@ -21,20 +21,19 @@ use Rattle.source.specs.declared.Drawn.{Drawn}
 use Rattle.random.specs.Generator.{later, words_of, rand_of}
 use Rattle.random.specs.GeneratorLaws.{later_none}
 use Rattle.random.specs.Lent.{joined_with, joined_word}
-use Rattle.bounded.specs.declared.answers.EngineAnswer.{EngineAnswer}
-use Rattle.bounded.specs.declared.draw.Tried.{Tried}
 use Rattle.bounded.specs.declared.answers.Answer.{Answer}
-use Rattle.bounded.specs.Answers.{answer_with, answer_from, answer_in, outcome_in, joined_answer, Below, refusing, accepting, numbered_in}
+use Rattle.bounded.specs.declared.draw.Tried.{Tried}
+use Rattle.bounded.specs.Answers.{answer_with, answer_from, answer_in, outcome_in, joined_answer, Below, refusing, accepting, in_numbers}
 use Rattle.bounded.specs.Trying.{TriedFrom, found, value, trying_start, trying_good}
 
 -- ---- what the code builds
 
-pub refusing_answers : {a : EngineAnswer} {o : Outcome} {number : ℕ} (e : Engine) (t : List ℕ) → a ≡ refusing number e → o ≡ refused number
+pub refusing_answers : {a : Answer Engine} {o : Outcome} {number : ℕ} (e : Engine) (t : List ℕ) → a ≡ refusing number e → o ≡ refused number
     → joined_answer a t ≡ answer_from (joined_with e t) o
 unfolding answer_from
 refusing_answers e t p q = rw (p, q, later_none (joined_with e t))
 
-pub accepting_answers : {a : EngineAnswer} {o : Outcome} {v n : ℕ} (e : Engine) (t : List ℕ) (g : Random) → a ≡ accepting v n e
+pub accepting_answers : {a : Answer Engine} {o : Outcome} {v n : ℕ} (e : Engine) (t : List ℕ) (g : Random) → a ≡ accepting v n e
     → o ≡ gives v n → joined_with e t ≡ later n g → joined_answer a t ≡ answer_from g o
 unfolding answer_from
 accepting_answers e t g p q h = rw (p, q, h)
@@ -44,15 +43,15 @@ accepting_answers e t g p q h = rw (p, q, h)
 -- An answer is that of an outcome o, and f, which keeps the words used, works on outcomes. Then what f makes of the answer's outcome, put
 -- together with the answer's generator, is what f makes of o, with the generator after its words: so it is the answer of f o. x is what
 -- the code has made of the answer's outcome.
-pub worked_answers : {X Y : Type 0} {a : EngineAnswer} {t : List ℕ} {x : X} (put : X → Random → Y) (used : X → ℕ) (f : Outcome → X)
+pub worked_answers : {X Y : Type 0} {a : Answer Engine} {t : List ℕ} {x : X} (put : X → Random → Y) (used : X → ℕ) (f : Outcome → X)
     (g : Random) (o : Outcome) → joined_answer a t ≡ answer_from g o → x ≡ f (outcome_in a) → used (f o) ≡ o.used
     → put x (joined_with a.next t) ≡ put (f o) (later (used (f o)) g)
 unfolding answer_from
 worked_answers put used f g o h made kept =
-    rw (made, kept) (ap (λ (y : Answer). put (f (record { refusal = y.refusal; value = y.value; used = y.used })) y.next) h)
+    rw (made, kept) (ap (λ (y : Answer Random). put (f (record { refusal = y.refusal; value = y.value; used = y.used })) y.next) h)
 
 -- n added to an answer, as the code adds it, where the sum has 32 bits
-pub raised_answers : {a b : EngineAnswer} {t : List ℕ} {told sum : Outcome} (n : ℕ) (g : Random) (o : Outcome)
+pub raised_answers : {a b : Answer Engine} {t : List ℕ} {told sum : Outcome} (n : ℕ) (g : Random) (o : Outcome)
     → joined_answer a t ≡ answer_from g o → (a.refusal ≡ answered → n + a.value < 2 ^ 32)
     → told ≡ outcome_in a → sum ≡ raised_modulo n told → b ≡ answer_in sum a.next
     → joined_answer b t ≡ answer_from g (raised n o)
@@ -63,22 +62,22 @@ raised_answers {a} n g o h small told sum built =
 
 -- the same of the code's answers: the code adds it modulo 2^32
 pub raised_replies : (a b : Reply ℕ Engine) {t : List ℕ} (n : ℕ) (g : Random) (o : Outcome)
-    → joined_answer (numbered_in a) t ≡ answer_from g o → ((numbered a.told).refusal ≡ answered → n + (numbered a.told).value < 2 ^ 32)
-    → RaisesPromise n a b → joined_answer (numbered_in b) t ≡ answer_from g (raised n o)
+    → joined_answer (in_numbers a) t ≡ answer_from g o → ((numbered a.told).refusal ≡ answered → n + (numbered a.told).value < 2 ^ 32)
+    → RaisesPromise n a b → joined_answer (in_numbers b) t ≡ answer_from g (raised n o)
 raised_replies a b n g o h small sum =
     raised_answers n g o h small refl sum.0 (ap (answer_in (numbered b.told)) sum.1)
 
 -- ---- a draw below r over a lent table: what it owes, by its ways out
 
 -- the answer is that of the draw, and where there is one its value is below r
-abbrev pub Draws : Random → ℕ → ℕ → EngineAnswer → List ℕ → Type 0
+abbrev pub Draws : Random → ℕ → ℕ → Answer Engine → List ℕ → Type 0
 Draws g r budget a m = (joined_answer a m ≡ answer_from g (bounded_by (words_of g) r budget)) × Below r a
 
-no_value : {a : EngineAnswer} {e : Engine} (r number : ℕ) → 0 < number → a ≡ refusing number e → Below r a
-no_value r number p q z = absurd (omega (arith, sym (ap (λ (x : EngineAnswer). x.refusal) q) ∙ z))
+no_value : {a : Answer Engine} {e : Engine} (r number : ℕ) → 0 < number → a ≡ refusing number e → Below r a
+no_value r number p q z = absurd (omega (arith, sym (ap (λ (x : Answer Engine). x.refusal) q) ∙ z))
 
 -- r is 0,
-pub draws_zero : {a : EngineAnswer} {r : ℕ} (budget : ℕ) (e : Engine) (m : List ℕ) → a ≡ refusing zero_range e → r ≡ 0
+pub draws_zero : {a : Answer Engine} {r : ℕ} (budget : ℕ) (e : Engine) (m : List ℕ) → a ≡ refusing zero_range e → r ≡ 0
     → Draws (joined_with e m) r budget a m
 draws_zero {r = r} budget e m q z = (
   refusing_answers e m q (bounded_only _ r budget (zero_range_lem z)),
@@ -86,7 +85,7 @@ draws_zero {r = r} budget e m q z = (
 )
 
 -- a try that was settled is the answer,
-pub draws_found : {g : Random} {r budget v : ℕ} {t : Tried} {h : Random} {a : EngineAnswer} (e : Engine) (m : List ℕ)
+pub draws_found : {g : Random} {r budget v : ℕ} {t : Tried} {h : Random} {a : Answer Engine} (e : Engine) (m : List ℕ)
     → TriedFrom g r budget t h → joined_with e m ≡ h → t.value ≡ Some v → v < r → a ≡ accepting v t.used e
     → Draws g r budget a m
 draws_found {g} {r} {budget} {v} {t} e m d same q small p =
@@ -97,7 +96,7 @@ draws_found {g} {r} {budget} {v} {t} e m d same q small p =
     )
 
 -- and one that was not is the refusal, with the generator that came in.
-pub draws_short : {r budget : ℕ} {t : Tried} {h : Random} {a : EngineAnswer} (e : Engine) (m : List ℕ)
+pub draws_short : {r budget : ℕ} {t : Tried} {h : Random} {a : Answer Engine} (e : Engine) (m : List ℕ)
     → TriedFrom (joined_with e m) r budget t h → 0 < r → t.value ≡ None → a ≡ refusing out_of_budget e
     → Draws (joined_with e m) r budget a m
 draws_short {r} e m d pos q p = (
@@ -106,7 +105,7 @@ draws_short {r} e m d pos q p = (
 )
 
 -- The first word, where it is good, is a try that is settled.
-pub draws_first : {r budget v : ℕ} {b : Bool} {w : Drawn ℕ Engine} {a : EngineAnswer} (e : Engine) (m m' : List ℕ) → 0 < budget
+pub draws_first : {r budget v : ℕ} {b : Bool} {w : Drawn ℕ Engine} {a : Answer Engine} (e : Engine) (m m' : List ℕ) → 0 < budget
     → joined_word w m' ≡ rand_of (joined_with e m) → w.word < 2 ^ 32 → b ≡ good r w.word → b ≡ true → v ≡ quotient r w.word
     → a ≡ accepting v 1 w.next → Draws (joined_with e m) r budget a m'
 draws_first {r} {w = w} e m m' some d sized g t q p =

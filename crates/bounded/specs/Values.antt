@@ -11,7 +11,7 @@ use Rattle.bounded.specs.Answers.{answer_from}
 use Rattle.bounded.specs.Promises.{BoundedPromise, RandomRangePromise, CharPromise}
 use Rattle.bounded.specs.RangeOutcomes.{range_between, char_between}
 
-module _ {a : Answer} (g : Random) where
+module _ {a : Answer Random} (g : Random) where
   -- `bounded`: below r (the order, demand 3)
   pub bounded_value : (r budget : ℕ) → BoundedPromise g r budget a → a.refusal ≡ answered → a.value < r
   unfolding answer_from

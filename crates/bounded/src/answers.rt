@@ -5,19 +5,11 @@ ghost use Rattle.bounded.specs.Promises.{ByValuePromise};
 use random::{Engine, Random};
 use words::{Outcome, Reply};
 
-// Refusal 0 where the call is answered. Where it is refused, value and used are 0, and next is the generator that came in.
+// An answer in document 01's numbers, as definitions and promises have it: refusal 0 where the call is answered; where it is refused, value
+// and used are 0, and next is the generator that came in. The calls here that build one take any number as a refusal: that keeps them.
 #[derive(Clone, Copy)]
-pub struct Answer {
-    pub refusal: u32,
-    pub value: u32,
-    pub used: u32,
-    pub next: Random,
-}
-
-// The same over a lent table.
-#[derive(Clone, Copy)]
-pub struct EngineAnswer {
-    pub next: Engine,
+pub struct Answer<G> {
+    pub next: G,
     pub refusal: u32,
     pub value: u32,
     pub used: u32,
@@ -34,10 +26,10 @@ pub fn by_value<T>(a: Reply<T, Engine>, mt: [u32; 624]) -> Reply<T, Random>
 }
 
 // The answer of an outcome: with the engine after its words.
-pub fn answer_in(o: Outcome, next: Engine) -> EngineAnswer
+pub fn answer_in(o: Outcome, next: Engine) -> Answer<Engine>
     ensures { AnswerInPromise o next result }
 {
-    EngineAnswer {
+    Answer {
         next,
         refusal: o.refusal,
         value: o.value,
@@ -46,7 +38,7 @@ pub fn answer_in(o: Outcome, next: Engine) -> EngineAnswer
 }
 
 // The outcome of an answer: all but its engine.
-pub fn outcome_of(a: EngineAnswer) -> Outcome
+pub fn outcome_of(a: Answer<Engine>) -> Outcome
     ensures { OutcomeOfPromise a result }
 {
     Outcome {
@@ -57,21 +49,21 @@ pub fn outcome_of(a: EngineAnswer) -> Outcome
 }
 
 // A refused call: its number, and the engine that came in.
-pub fn refuse_in(number: u32, e: Engine) -> EngineAnswer
+pub fn refuse_in(number: u32, e: Engine) -> Answer<Engine>
     ensures { RefuseInPromise number e result }
 {
     answer_in(words::refused(number), e)
 }
 
 // An answered call: its value, the words used, and the engine after them.
-pub fn accept_in(value: u32, used: u32, next: Engine) -> EngineAnswer
+pub fn accept_in(value: u32, used: u32, next: Engine) -> Answer<Engine>
     ensures { AcceptInPromise value used next result }
 {
     answer_in(words::gives(value, used), next)
 }
 
 // Either of them by value: the answer over a lent table, and the table that it left.
-pub fn joined(a: EngineAnswer, mt: [u32; 624]) -> Answer
+pub fn joined(a: Answer<Engine>, mt: [u32; 624]) -> Answer<Random>
     ensures { JoinedPromise a mt result }
 {
     let e = a.next;

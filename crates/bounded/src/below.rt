@@ -1,7 +1,7 @@
 // A draw below a bound. The table changes only where the twister renews it, once in 624 words: so the first word, where it is ready and
 // good, settles nearly every draw and writes nothing. Otherwise the loop runs, for the twister on a copy that is written back on success.
 ghost use Rattle.std.specs.Prelude.{◌<◌};
-ghost use Rattle.bounded.specs.Answers.{Below, numbered_by, numbered_in};
+ghost use Rattle.bounded.specs.Answers.{Below, in_numbers};
 ghost use Rattle.bounded.specs.Promises.{BoundedInPromise, BoundedPromise};
 
 use crate::answers::by_value;
@@ -12,8 +12,8 @@ use words::{Refusal, Reply};
 // The draw by the loop, on a copy of the table.
 fn settle_on_copy(e: Engine, mt: &mut [u32; 624], r: u32, budget: u32) -> Reply<u32, Engine>
     requires { 0 < r }
-    ensures answer { BoundedInPromise e mt.old r budget (numbered_in result) mt.new }
-    ensures small { Below r (numbered_in result) }
+    ensures answer { BoundedInPromise e mt.old r budget (in_numbers result) mt.new }
+    ensures small { Below r (in_numbers result) }
 {
     let mut copy = *mt;
     let t = draw_in(e, &mut copy, r, budget);
@@ -26,8 +26,8 @@ fn settle_on_copy(e: Engine, mt: &mut [u32; 624], r: u32, budget: u32) -> Reply<
 
 // The draw by the loop.
 fn settle(e: Engine, mt: &mut [u32; 624], r: u32, budget: u32) -> Reply<u32, Engine>
-    ensures answer { BoundedInPromise e mt.old r budget (numbered_in result) mt.new }
-    ensures small { Below r (numbered_in result) }
+    ensures answer { BoundedInPromise e mt.old r budget (in_numbers result) mt.new }
+    ensures small { Below r (in_numbers result) }
 {
     if r == 0 {
         return Reply::refuses(Refusal::ZeroRange, e);
@@ -44,8 +44,8 @@ fn settle(e: Engine, mt: &mut [u32; 624], r: u32, budget: u32) -> Reply<u32, Eng
 
 // A number below r. Where it is refused the table is as it came.
 pub fn bounded_in(e: Engine, mt: &mut [u32; 624], r: u32, budget: u32) -> Reply<u32, Engine>
-    ensures answer { BoundedInPromise e mt.old r budget (numbered_in result) mt.new }
-    ensures small { Below r (numbered_in result) }
+    ensures answer { BoundedInPromise e mt.old r budget (in_numbers result) mt.new }
+    ensures small { Below r (in_numbers result) }
 {
     if budget > 0 {
         if random::surely_ready(e) {
@@ -61,7 +61,7 @@ pub fn bounded_in(e: Engine, mt: &mut [u32; 624], r: u32, budget: u32) -> Reply<
 
 // A number below r.
 pub fn bounded(g: Random, r: u32, budget: u32) -> Reply<u32, Random>
-    ensures { BoundedPromise g r budget (numbered_by result) }
+    ensures { BoundedPromise g r budget (in_numbers result) }
 {
     let mut moved = g;
     let a = bounded_in(random::engine_of(g), &mut moved.twister.mt, r, budget);

@@ -7,8 +7,6 @@ mod below;
 mod draw;
 mod ranges;
 
-pub use answers::{
-    Answer, EngineAnswer, accept_in, answer_in, by_value, joined, outcome_of, refuse_in,
-};
+pub use answers::{Answer, accept_in, answer_in, by_value, joined, outcome_of, refuse_in};
 pub use below::{bounded, bounded_in};
 pub use ranges::{char, char_in, random_range, random_range_in};

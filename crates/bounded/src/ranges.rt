@@ -1,5 +1,5 @@
 // Draws that are a draw below a bound with a number added: between two ends, and a letter.
-ghost use Rattle.bounded.specs.Answers.{numbered_by, numbered_in};
+ghost use Rattle.bounded.specs.Answers.{in_numbers};
 ghost use Rattle.bounded.specs.Promises.{RandomRangeInPromise, RandomRangePromise, CharInPromise, CharPromise};
 
 use crate::answers::by_value;
@@ -18,7 +18,7 @@ pub fn random_range_in(
     max: u32,
     budget: u32,
 ) -> Reply<u32, Engine>
-    ensures { RandomRangeInPromise e mt.old min max budget (numbered_in result) mt.new }
+    ensures { RandomRangeInPromise e mt.old min max budget (in_numbers result) mt.new }
 {
     if max <= min {
         return Reply::refuses(Refusal::Order, e);
@@ -28,7 +28,7 @@ pub fn random_range_in(
 
 // A number from min up to max - 1.
 pub fn random_range(g: Random, min: u32, max: u32, budget: u32) -> Reply<u32, Random>
-    ensures { RandomRangePromise g min max budget (numbered_by result) }
+    ensures { RandomRangePromise g min max budget (in_numbers result) }
 {
     let mut moved = g;
     let a = random_range_in(
@@ -43,14 +43,14 @@ pub fn random_range(g: Random, min: u32, max: u32, budget: u32) -> Reply<u32, Ra
 
 // A small letter's ASCII code. Where it is refused the table is as it came.
 pub fn char_in(e: Engine, mt: &mut [u32; 624], budget: u32) -> Reply<u32, Engine>
-    ensures { CharInPromise e mt.old budget (numbered_in result) mt.new }
+    ensures { CharInPromise e mt.old budget (in_numbers result) mt.new }
 {
     bounded_in(e, mt, LETTERS, budget).raised(b'a' as u32)
 }
 
 // A small letter's ASCII code.
 pub fn char(g: Random, budget: u32) -> Reply<u32, Random>
-    ensures { CharPromise g budget (numbered_by result) }
+    ensures { CharPromise g budget (in_numbers result) }
 {
     let mut moved = g;
     let a = char_in(random::engine_of(g), &mut moved.twister.mt, budget);

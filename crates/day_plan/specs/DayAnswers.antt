@@ -7,7 +7,7 @@ use Rattle.words.specs.Draw.{Words}
 use Rattle.random.specs.declared.engine.Engine.{Engine}
 use Rattle.random.specs.Generator.{words_of}
 use Rattle.random.specs.Lent.{joined_with}
-use Rattle.bounded.specs.declared.answers.EngineAnswer.{EngineAnswer}
+use Rattle.bounded.specs.declared.answers.Answer.{Answer}
 use Rattle.bounded.specs.Answers.{answer_in}
 use Rattle.lists.specs.Limit.{list_limit}
 use Rattle.shuffle.specs.OneShuffle.{answered_exactly_if}
@@ -27,14 +27,14 @@ module _ {o : Outcome} (e : Engine) (mt day : List ℕ) (blanks budget : ℕ) (t
   refusal_told = sym (ap (λ (x : Outcome). x.refusal) told)
 
   -- The plan is refused, and nothing has changed;
-  pub planned_refused : {a : EngineAnswer} → (o.refusal ≡ answered → ⊥) → a ≡ answer_in o e
+  pub planned_refused : {a : Answer Engine} → (o.refusal ≡ answered → ⊥) → a ≡ answer_in o e
       → PlanDayInPromise e mt day blanks budget a mt day
   planned_refused n p =
       let whole = shuffled_refused e mt day budget told n p in
       (whole.0, sym (plan_refused (words_of (joined_with e mt)) blanks day budget (λ z. n (sym refusal_told ∙ z))))
 
   -- or the day is laid out, and its shuffle performed.
-  pub planned_all : {a : EngineAnswer} {laid mt' day' : List ℕ} {next : Engine} → o.refusal ≡ answered → laid ≡ laid_out blanks (length day)
+  pub planned_all : {a : Answer Engine} {laid mt' day' : List ℕ} {next : Engine} → o.refusal ≡ answered → laid ≡ laid_out blanks (length day)
       → PerformInPromise e mt laid budget next mt' day' → a ≡ answer_in o next → PlanDayInPromise e mt day blanks budget a mt' day'
   planned_all {laid = laid} z f p q =
       let same : length laid ≡ length day = ap length f ∙ laid_length blanks (length day) in

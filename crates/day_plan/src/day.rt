@@ -1,5 +1,5 @@
 // The plan of a day. What its shuffle comes to is known before a slot is touched: so a refusal leaves the day as it came.
-ghost use Rattle.shuffle.specs.Replies.{done_by, done_in};
+ghost use Rattle.shuffle.specs.Replies.{done_in_numbers};
 ghost use Rattle.day_plan.specs.Promises.{PlanDayInPromise, PlanDayPromise};
 
 use crate::layout::lay_out;
@@ -15,7 +15,7 @@ pub fn plan_day_in(
     blanks: usize,
     budget: u32,
 ) -> Reply<(), Engine>
-    ensures { PlanDayInPromise e mt.old day.old blanks budget (done_in result) mt.new day.new }
+    ensures { PlanDayInPromise e mt.old day.old blanks budget (done_in_numbers result) mt.new day.new }
 {
     match shuffle::outcome_in(e, mt, day.len(), budget) {
         Ok(given) => {
@@ -28,7 +28,7 @@ pub fn plan_day_in(
 
 // The same by value. Where it is refused the day is as it came.
 pub fn plan_day(g: Random, day: &mut [u32], blanks: usize, budget: u32) -> Reply<(), Random>
-    ensures { PlanDayPromise g day.old blanks budget (done_by result) day.new }
+    ensures { PlanDayPromise g day.old blanks budget (done_in_numbers result) day.new }
 {
     let mut moved = g;
     let a = plan_day_in(

@@ -15,7 +15,7 @@ use Rattle.lists.proofs.ChoosingOutcomes.{choose_place_below, choose_value_there
 use Rattle.lists.specs.SlicingOutcomes.{start_leaves_room}
 
 -- `choose`: a place of the list, and the entry there (document 01, "Draws")
-pub choose_value : {a : Chosen} (g : Random) (list : List ℕ) (budget : ℕ) → ChoosePromise g list budget a → a.refusal ≡ answered
+pub choose_value : {a : Chosen Random} (g : Random) (list : List ℕ) (budget : ℕ) → ChoosePromise g list budget a → a.refusal ≡ answered
     → (a.place < length list) × (a.value ≡ get_or list a.place 0)
 unfolding choice_from
 choose_value g list budget p =
@@ -23,7 +23,7 @@ choose_value g list budget p =
     rw p (λ h. (choose_place_below s list budget h (words_sized g), choose_value_there s list budget h))
 
 -- `rand_slice`: a start that leaves room for the window
-pub slice_value : {a : SliceStart} (g : Random) (list : List ℕ) (window budget : ℕ) → RandSlicePromise g list window budget a
+pub slice_value : {a : SliceStart Random} (g : Random) (list : List ℕ) (window budget : ℕ) → RandSlicePromise g list window budget a
     → a.refusal ≡ answered → a.start + window ≤ length list
 unfolding start_from start_of
 slice_value g list window budget p = rw p (λ h. start_leaves_room (words_of g) (length list) window budget h (words_sized g))

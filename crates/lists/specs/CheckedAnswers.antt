@@ -8,7 +8,7 @@ use Rattle.words.specs.Draw.{refused}
 use Rattle.random.specs.declared.engine.Engine.{Engine}
 use Rattle.random.specs.declared.backend.Random.{Random}
 use Rattle.random.specs.Lent.{joined_with}
-use Rattle.bounded.specs.declared.answers.EngineAnswer.{EngineAnswer}
+use Rattle.bounded.specs.declared.answers.Answer.{Answer}
 use Rattle.bounded.specs.Answers.{answer_from, joined_answer, refusing}
 use Rattle.bounded.specs.AnswerLaws.{refusing_answers}
 use Rattle.words.specs.declared.refusal.Refusal.{Refusal}
@@ -20,15 +20,15 @@ use Rattle.lists.specs.Replies.{refusal_in}
 use Rattle.lists.specs.CheckedDraws.{unless_passed, unless_refuses}
 
 module _ {number checked : ℕ} (o : Outcome) (told : number ≡ checked) where
-  pub passed_answers : {a : EngineAnswer} {m : List ℕ} (g : Random) → number ≡ answered → joined_answer a m ≡ answer_from g o
+  pub passed_answers : {a : Answer Engine} {m : List ℕ} (g : Random) → number ≡ answered → joined_answer a m ≡ answer_from g o
       → joined_answer a m ≡ answer_from g (unless checked o)
   passed_answers g z h = rw (unless_passed checked o (sym told ∙ z)) h
 
-  pub refused_answers : {a : EngineAnswer} (e : Engine) (m : List ℕ) → (number ≡ answered → ⊥) → a ≡ refusing number e
+  pub refused_answers : {a : Answer Engine} (e : Engine) (m : List ℕ) → (number ≡ answered → ⊥) → a ≡ refusing number e
       → (joined_answer a m ≡ answer_from (joined_with e m) (unless checked o)) × (a.refusal ≡ answered → ⊥)
   refused_answers {a} e m h p = (
     refusing_answers e m p (unless_refuses checked o (λ z. h (told ∙ z)) ∙ ap refused (sym told)),
-    λ z. h (sym (ap (λ (x : EngineAnswer). x.refusal) p) ∙ z),
+    λ z. h (sym (ap (λ (x : Answer Engine). x.refusal) p) ∙ z),
   )
 
 -- Of two checks one after the other the first that refuses gives the number.

@@ -9,12 +9,12 @@ use Rattle.words.specs.OutcomeLaws.{worked_answered, worked_refused}
 use Rattle.random.specs.declared.backend.Random.{Random}
 use Rattle.random.specs.declared.engine.Engine.{Engine}
 use Rattle.words.specs.declared.reply.Reply.{Reply}
-use Rattle.bounded.specs.Answers.{answer_from, joined_answer, numbered_in}
+use Rattle.bounded.specs.Answers.{answer_from, joined_answer, in_numbers}
 use Rattle.bounded.specs.AnswerLaws.{worked_answers}
 use Rattle.random.specs.Lent.{joined_with}
 use Rattle.lists.specs.declared.outcomes.Choice.{Choice}
 use Rattle.lists.specs.Choosing.{entry_of, choice_with, choice_from, joined_choice}
-use Rattle.lists.specs.Replies.{EntryIn, choice, choice_in}
+use Rattle.lists.specs.Replies.{EntryIn, choice, choice_in_numbers}
 use Rattle.lists.specs.declared.places.Entry.{Entry}
 use Rattle.lists.specs.Promises.{PlaceWithin}
 
@@ -44,8 +44,8 @@ module _ (list : List ℕ) (o : Outcome) where
 -- ---- and so the answer
 
 pub entry_answers : (a : Reply ℕ Engine) (b : Reply Entry Engine) {t : List ℕ} (list : List ℕ) (g : Random) (o : Outcome)
-    → joined_answer (numbered_in a) t ≡ answer_from g o → EntryIn list a b
-    → joined_choice (choice_in b) t ≡ choice_from g (entry_of list o)
+    → joined_answer (in_numbers a) t ≡ answer_from g o → EntryIn list a b
+    → joined_choice (choice_in_numbers b) t ≡ choice_from g (entry_of list o)
 unfolding choice_from
 entry_answers a b {t} list g o h made =
     ap (λ (e : Engine). choice_with (choice b.told) (joined_with e t)) made.1
@@ -53,6 +53,6 @@ entry_answers a b {t} list g o h made =
 
 -- a place that is one of the n stays so
 pub entry_within : (a : Reply ℕ Engine) (b : Reply Entry Engine) (n : ℕ) (list : List ℕ) → EntryIn list a b
-    → PlaceWithin n (numbered_in a).refusal (numbered_in a).value → PlaceWithin n (choice_in b).refusal (choice_in b).place
+    → PlaceWithin n (in_numbers a).refusal (in_numbers a).value → PlaceWithin n (choice_in_numbers b).refusal (choice_in_numbers b).place
 unfolding entry_of
 entry_within a b n list made within = subst (λ (c : Choice). PlaceWithin n c.refusal c.place) (sym made.0) within

@@ -9,14 +9,12 @@ use Rattle.random.specs.GeneratorLaws.{later_none}
 use Rattle.random.specs.Lent.{joined_with, engine_in, table_in}
 use Rattle.random.specs.LentLaws.{joined_apart}
 use Rattle.lists.specs.Choosing.{Chosen}
-use Rattle.lists.specs.Choosing.{EngineChosen}
 use Rattle.lists.specs.Slicing.{SliceStart}
-use Rattle.lists.specs.Slicing.{EngineSliceStart}
 use Rattle.lists.specs.declared.outcomes.Choice.{Choice}
 use Rattle.lists.specs.declared.outcomes.SliceOutcome.{SliceOutcome}
 use Rattle.lists.specs.Choosing.{choice_from, joined_choice}
 use Rattle.lists.specs.Slicing.{start_of, start_from, joined_start}
-use Rattle.lists.specs.Replies.{choice, choice_by, choice_in, start_by, start_in}
+use Rattle.lists.specs.Replies.{choice, choice_in_numbers, start_in_numbers}
 use Rattle.lists.specs.declared.places.Entry.{Entry}
 use Rattle.words.specs.declared.refusal.Refusal.{Refusal}
 use Rattle.words.specs.declared.reply.Given.{Given}
@@ -25,7 +23,7 @@ use Rattle.words.specs.NumbersLaws.{number_positive, numbers_apart, one_number}
 
 -- ---- `choose` by value
 
-module _ {a : Chosen} (g : Random) (c : Choice) (p : a ≡ choice_from g c) where
+module _ {a : Chosen Random} (g : Random) (c : Choice) (p : a ≡ choice_from g c) where
   -- "The new generator is the old one after that many words" (document 01, "Draws").
   pub choice_next : a.next ≡ later a.used g
   unfolding choice_from
@@ -38,20 +36,20 @@ module _ {a : Chosen} (g : Random) (c : Choice) (p : a ≡ choice_from g c) wher
 
 -- ---- over a lent table
 
-pub choice_apart : {a b : EngineChosen} {m m' : List ℕ} → joined_choice a m ≡ joined_choice b m' → (a ≡ b) × (m ≡ m')
+pub choice_apart : {a b : Chosen Engine} {m m' : List ℕ} → joined_choice a m ≡ joined_choice b m' → (a ≡ b) × (m ≡ m')
 choice_apart h = (
-  ap (λ (x : Chosen). record { refusal = x.refusal; place = x.place; value = x.value; used = x.used; next = engine_in x.next }) h,
-  ap (λ (x : Chosen). table_in x.next) h,
+  ap (λ (x : Chosen Random). record { refusal = x.refusal; place = x.place; value = x.value; used = x.used; next = engine_in x.next }) h,
+  ap (λ (x : Chosen Random). table_in x.next) h,
 )
 
 -- the engine and the table are as they came
-pub choice_unmoved_in : {a : EngineChosen} {m' : List ℕ} (e : Engine) (m : List ℕ) (c : Choice)
+pub choice_unmoved_in : {a : Chosen Engine} {m' : List ℕ} (e : Engine) (m : List ℕ) (c : Choice)
     → joined_choice a m' ≡ choice_from (joined_with e m) c → c.used ≡ 0 → (a.next ≡ e) × (m' ≡ m)
 choice_unmoved_in e m c p none = joined_apart (choice_unmoved (joined_with e m) c p none)
 
 -- ---- `rand_slice` by value
 
-module _ {a : SliceStart} (g : Random) (s : SliceOutcome) (p : a ≡ start_from g s) where
+module _ {a : SliceStart Random} (g : Random) (s : SliceOutcome) (p : a ≡ start_from g s) where
   pub start_next : a.next ≡ later a.used g
   unfolding start_from
   start_next = rw p
@@ -62,13 +60,13 @@ module _ {a : SliceStart} (g : Random) (s : SliceOutcome) (p : a ≡ start_from 
 
 -- ---- over a lent table
 
-pub start_apart : {a b : EngineSliceStart} {m m' : List ℕ} → joined_start a m ≡ joined_start b m' → (a ≡ b) × (m ≡ m')
+pub start_apart : {a b : SliceStart Engine} {m m' : List ℕ} → joined_start a m ≡ joined_start b m' → (a ≡ b) × (m ≡ m')
 start_apart h = (
-  ap (λ (x : SliceStart). record { refusal = x.refusal; start = x.start; used = x.used; next = engine_in x.next }) h,
-  ap (λ (x : SliceStart). table_in x.next) h,
+  ap (λ (x : SliceStart Random). record { refusal = x.refusal; start = x.start; used = x.used; next = engine_in x.next }) h,
+  ap (λ (x : SliceStart Random). table_in x.next) h,
 )
 
-pub start_unmoved_in : {a : EngineSliceStart} {m' : List ℕ} (e : Engine) (m : List ℕ) (s : SliceOutcome)
+pub start_unmoved_in : {a : SliceStart Engine} {m' : List ℕ} (e : Engine) (m : List ℕ) (s : SliceOutcome)
     → joined_start a m' ≡ start_from (joined_with e m) s → s.used ≡ 0 → (a.next ≡ e) × (m' ≡ m)
 start_unmoved_in e m s p none = joined_apart (start_unmoved (joined_with e m) s p none)
 
@@ -81,26 +79,14 @@ choices_apart (Err r) (Err q) e = ap Err (one_number (ap (λ (c : Choice). c.ref
 choices_apart (Ok g) (Err q) e = absurd (omega (arith, number_positive q, ap (λ (c : Choice). c.refusal) e))
 choices_apart (Err r) (Ok h) e = absurd (omega (arith, number_positive r, ap (λ (c : Choice). c.refusal) e))
 
-pub choice_same_by : (a b : Reply Entry Random) → choice_by a ≡ choice_by b → a ≡ b
-choice_same_by a b h =
-    ap₂ (λ (g : Random) (t : Result (Given Entry) Refusal). record { next = g; told = t }) (ap (λ (x : Chosen). x.next) h)
+pub choice_same_reply : {G : Type 0} (a b : Reply Entry G) → choice_in_numbers a ≡ choice_in_numbers b → a ≡ b
+choice_same_reply {G} a b h =
+    ap₂ (λ (g : G) (t : Result (Given Entry) Refusal). record { next = g; told = t }) (ap (λ (x : Chosen G). x.next) h)
     (choices_apart a.told b.told
-    (ap (λ (x : Chosen). record { refusal = x.refusal; place = x.place; value = x.value; used = x.used }) h))
+    (ap (λ (x : Chosen G). record { refusal = x.refusal; place = x.place; value = x.value; used = x.used }) h))
 
-pub choice_same_in : (a b : Reply Entry Engine) → choice_in a ≡ choice_in b → a ≡ b
-choice_same_in a b h =
-    ap₂ (λ (e : Engine) (t : Result (Given Entry) Refusal). record { next = e; told = t }) (ap (λ (x : EngineChosen). x.next) h)
-    (choices_apart a.told b.told
-    (ap (λ (x : EngineChosen). record { refusal = x.refusal; place = x.place; value = x.value; used = x.used }) h))
-
-pub start_same_by : (a b : Reply ℕ Random) → start_by a ≡ start_by b → a ≡ b
+pub start_same_reply : {G : Type 0} (a b : Reply ℕ G) → start_in_numbers a ≡ start_in_numbers b → a ≡ b
 unfolding start_of
-start_same_by a b h =
-    ap₂ (λ (g : Random) (t : Result (Given ℕ) Refusal). record { next = g; told = t }) (ap (λ (x : SliceStart). x.next) h)
-    (numbers_apart a.told b.told (ap (λ (x : SliceStart). record { refusal = x.refusal; value = x.start; used = x.used }) h))
-
-pub start_same_in : (a b : Reply ℕ Engine) → start_in a ≡ start_in b → a ≡ b
-unfolding start_of
-start_same_in a b h =
-    ap₂ (λ (e : Engine) (t : Result (Given ℕ) Refusal). record { next = e; told = t }) (ap (λ (x : EngineSliceStart). x.next) h)
-    (numbers_apart a.told b.told (ap (λ (x : EngineSliceStart). record { refusal = x.refusal; value = x.start; used = x.used }) h))
+start_same_reply {G} a b h =
+    ap₂ (λ (g : G) (t : Result (Given ℕ) Refusal). record { next = g; told = t }) (ap (λ (x : SliceStart G). x.next) h)
+    (numbers_apart a.told b.told (ap (λ (x : SliceStart G). record { refusal = x.refusal; value = x.start; used = x.used }) h))

@@ -9,8 +9,8 @@ use Rattle.random.specs.declared.backend.Random.{Random}
 use Rattle.random.specs.declared.engine.Engine.{Engine}
 use Rattle.lists.specs.declared.outcomes.Choice.{Choice}
 use Rattle.lists.specs.declared.places.Entry.{Entry}
-use Rattle.lists.specs.Choosing.{Chosen, EngineChosen, choice_with, entry_of}
-use Rattle.lists.specs.Slicing.{SliceStart, EngineSliceStart, start_of, start_with}
+use Rattle.lists.specs.Choosing.{Chosen, choice_with, entry_of}
+use Rattle.lists.specs.Slicing.{SliceStart, start_of, start_with}
 
 -- the number of a check: 0 where it passes
 abbrev pub refusal_in : {T : Type 0} → Result T Refusal → ℕ
@@ -23,15 +23,9 @@ abbrev pub choice : Result (Given Entry) Refusal → Choice
 choice (Ok g) = record { refusal = answered; place = g.value.place; value = g.value.value; used = g.used }
 choice (Err r) = record { refusal = number_of r; place = 0; value = 0; used = 0 }
 
--- by value,
-abbrev pub choice_by : Reply Entry Random → Chosen
-choice_by a = choice_with (choice a.told) a.next
-
--- and over a lent table
-abbrev pub choice_in : Reply Entry Engine → EngineChosen
-choice_in a =
-    let c = choice a.told in
-    record { refusal = c.refusal; place = c.place; value = c.value; used = c.used; next = a.next }
+-- by value and over a lent table
+abbrev pub choice_in_numbers : {G : Type 0} → Reply Entry G → Chosen G
+choice_in_numbers a = choice_with (choice a.told) a.next
 
 -- r has the place of a, and the entry of the list there
 abbrev pub EntryIn : List ℕ → Reply ℕ Engine → Reply Entry Engine → Type 0
@@ -39,12 +33,6 @@ EntryIn list a r = (choice r.told ≡ entry_of list (numbered a.told)) × (r.nex
 
 -- ---- `rand_slice`
 
--- by value,
-abbrev pub start_by : Reply ℕ Random → SliceStart
-start_by a = start_with (start_of (numbered a.told)) a.next
-
--- and over a lent table
-abbrev pub start_in : Reply ℕ Engine → EngineSliceStart
-start_in a =
-    let s = start_of (numbered a.told) in
-    record { refusal = s.refusal; start = s.start; used = s.used; next = a.next }
+-- by value and over a lent table
+abbrev pub start_in_numbers : {G : Type 0} → Reply ℕ G → SliceStart G
+start_in_numbers a = start_with (start_of (numbered a.told)) a.next

@@ -7,8 +7,8 @@ use Rattle.words.specs.declared.outcome.Outcome.{Outcome}
 use Rattle.random.specs.declared.backend.Random.{Random}
 use Rattle.random.specs.declared.engine.Engine.{Engine}
 use Rattle.words.specs.declared.reply.Reply.{Reply}
-use Rattle.bounded.specs.Answers.{answer_from, joined_answer, numbered_in}
-use Rattle.lists.specs.Replies.{start_in}
+use Rattle.bounded.specs.Answers.{answer_from, joined_answer, in_numbers}
+use Rattle.lists.specs.Replies.{start_in_numbers}
 use Rattle.bounded.specs.AnswerLaws.{worked_answers}
 use Rattle.lists.specs.declared.outcomes.SliceOutcome.{SliceOutcome}
 use Rattle.lists.specs.Slicing.{start_of, start_with, start_from, joined_start, part_of, part_place}
@@ -21,15 +21,15 @@ unfolding start_of
 start_used o = refl
 
 pub start_answers : (a b : Reply ℕ Engine) {t : List ℕ} (g : Random) (o : Outcome)
-    → joined_answer (numbered_in a) t ≡ answer_from g o → b ≡ a → joined_start (start_in b) t ≡ start_from g (start_of o)
+    → joined_answer (in_numbers a) t ≡ answer_from g o → b ≡ a → joined_start (start_in_numbers b) t ≡ start_from g (start_of o)
 unfolding start_from
 start_answers a b {t} g o h same =
-    ap (λ (r : Reply ℕ Engine). joined_start (start_in r) t) same
+    ap (λ (r : Reply ℕ Engine). joined_start (start_in_numbers r) t) same
     ∙ worked_answers start_with (λ (x : SliceOutcome). x.used) start_of g o h refl (start_used o)
 
 -- a start that leaves room stays so
 pub start_fits : (a b : Reply ℕ Engine) (n window : ℕ) → b ≡ a
-    → PartFits n window (numbered_in a).refusal (numbered_in a).value → PartFits n window (start_in b).refusal (start_in b).start
+    → PartFits n window (in_numbers a).refusal (in_numbers a).value → PartFits n window (start_in_numbers b).refusal (start_in_numbers b).start
 unfolding start_of
 start_fits a b n window same fits = rw same fits
 

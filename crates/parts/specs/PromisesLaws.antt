@@ -9,8 +9,7 @@ use Rattle.parts.specs.Decides.{decides_once}
 use Rattle.parts.specs.Promises.{KindPromise, MtiInPromise, MtiPromise, SameInPromise, SamePromise, SameWordsPromise, SetMtiInPromise}
 use Rattle.parts.specs.Promises.{SetMtiPromise, SmallWordsPromise, SplitInPromise, SplitPromise, PartsTwistInPromise, TwistPromise}
 use Rattle.parts.specs.declared.read_out.Small.{Small}
-use Rattle.parts.specs.Splitting.{EngineSplit}
-use Rattle.parts.specs.Splitting.{SplitAnswer}
+use Rattle.parts.specs.Splitting.{Divided}
 
 pub one_same_words : (a b : List ℕ) {r r' : Bool} → SameWordsPromise a b r → SameWordsPromise a b r' → r ≡ r'
 one_same_words a b p q = decides_once _ _ _ p q
@@ -47,8 +46,8 @@ one_kind backend p q = p ∙ sym q
 pub one_small_words : (backend : Backend) {a b : Small} → SmallWordsPromise backend a → SmallWordsPromise backend b → a ≡ b
 one_small_words backend p q = p ∙ sym q
 
-pub one_split_in : (e : Engine) {a b : EngineSplit} → SplitInPromise e a → SplitInPromise e b → a ≡ b
+pub one_split_in : (e : Engine) {a b : Divided Engine} → SplitInPromise e a → SplitInPromise e b → a ≡ b
 one_split_in e p q = p ∙ sym q
 
-pub one_split : (g : Random) {a b : SplitAnswer} → SplitPromise g a → SplitPromise g b → a ≡ b
+pub one_split : (g : Random) {a b : Divided Random} → SplitPromise g a → SplitPromise g b → a ≡ b
 one_split g p q = p ∙ sym q

@@ -4,7 +4,8 @@ use Rattle.std.proofs.Common.{sym, ◌∙◌, ap, arith}
 use Rattle.random.specs.declared.backend.Backend.{Backend}
 use Rattle.random.specs.declared.backend.Backend.TheVariants.{Xoshiro256PlusPlus, MersenneTwister, Pcg32, Pcg64}
 use Rattle.random.specs.declared.backend.Random.{Random}
-use Rattle.parts.specs.Splitting.{EngineSplit}
+use Rattle.random.specs.declared.engine.Engine.{Engine}
+use Rattle.parts.specs.Splitting.{Divided}
 use Rattle.parts.specs.Kind.{kind_of}
 use Rattle.making.specs.Make.{zero_generator}
 use Rattle.parts.specs.Splitting.{engine_split_by, engine_split, split_by, split_of}
@@ -21,10 +22,10 @@ module _ (g : Random) where
   answered_by (Pcg64 p) z = absurd (omega arith)
 
   -- answered: the parent is joined with the table again, and the child is the generator that came
-  pub split_answered : (s : EngineSplit) → s ≡ engine_split (engine_in g) → s.refusal ≡ 0
+  pub split_answered : (s : Divided Engine) → s ≡ engine_split (engine_in g) → s.refusal ≡ 0
       → record { refusal = 0; parent = joined_with s.parent g.twister.mt; child = g } ≡ split_of g
   unfolding engine_split split_of
-  split_answered s e z = rw e (answered_by g.backend (ap (λ (x : EngineSplit). x.refusal) (sym e) ∙ z))
+  split_answered s e z = rw e (answered_by g.backend (ap (λ (x : Divided Engine). x.refusal) (sym e) ∙ z))
 
   none_by : (b : Backend) → ((engine_split_by b (engine_in g)).refusal ≡ 0 → ⊥)
       → record { refusal = (engine_split_by b (engine_in g)).refusal; parent = g; child = zero_generator } ≡ split_by b g
@@ -34,10 +35,10 @@ module _ (g : Random) where
   none_by (Pcg64 p) z = refl
 
   -- refused: the generator that came, and zeros
-  pub split_none : (s : EngineSplit) → s ≡ engine_split (engine_in g) → (s.refusal ≡ 0 → ⊥)
+  pub split_none : (s : Divided Engine) → s ≡ engine_split (engine_in g) → (s.refusal ≡ 0 → ⊥)
       → record { refusal = s.refusal; parent = g; child = zero_generator } ≡ split_of g
   unfolding engine_split split_of
-  split_none s e z = rw e (none_by g.backend (λ h. z (ap (λ (x : EngineSplit). x.refusal) e ∙ h)))
+  split_none s e z = rw e (none_by g.backend (λ h. z (ap (λ (x : Divided Engine). x.refusal) e ∙ h)))
 
 -- a generator is refused exactly where its kind is not 0
 refusal_by : (b : Backend) (g : Random) → ((split_by b g).refusal ≡ 0 → kind_of b ≡ 0) × (kind_of b ≡ 0 → (split_by b g).refusal ≡ 0)

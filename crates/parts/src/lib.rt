@@ -9,4 +9,4 @@ mod splitting;
 pub use equality::{same, same_in, same_words};
 pub use position::{mti, mti_in, set_mti, set_mti_in, twist, twist_in};
 pub use read_out::{Small, kind, small_words};
-pub use splitting::{EngineSplit, SplitAnswer, split, split_in};
+pub use splitting::{Divided, split, split_in};

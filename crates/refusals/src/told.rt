@@ -4,7 +4,7 @@ use float_draws::Spread;
 use floats::Uniform;
 use lists::Entry;
 use making::Made;
-use parts::{EngineSplit, SplitAnswer};
+use parts::Divided;
 use random::{Engine, Random, with_table};
 use words::{Given, Refusal, Reply};
 
@@ -132,13 +132,13 @@ fn divided<G>(refusal: Option<Refusal>, child: Random, right: Random, parent: G)
     Told { said, next: parent }
 }
 
-pub(crate) fn split(a: SplitAnswer, g: Random) -> Told<Random> {
+pub(crate) fn split(a: Divided<Random>, g: Random) -> Told<Random> {
     let right = if a.refusal.is_none() { g } else { zeros() };
     divided(a.refusal, a.child, right, a.parent)
 }
 
 // Lent, `split` has no use for the table: the parent keeps it, and so does a child; a refused child has zeros.
-pub(crate) fn split_in(a: EngineSplit, g: Random) -> Told<Engine> {
+pub(crate) fn split_in(a: Divided<Engine>, g: Random) -> Told<Engine> {
     let right = if a.refusal.is_none() { g } else { zeros() };
     let child = with_table(a.child, right.twister.mt);
     divided(a.refusal, child, right, a.parent)

@@ -4,7 +4,7 @@ use crate::sample::{ANSWER_WORDS, halves, joined};
 use float_draws::Spread;
 use floats::Uniform;
 use lists::Entry;
-use parts::SplitAnswer;
+use parts::Divided;
 use random::Random;
 use source::Drawn;
 use words::{Given, Refusal, Reply};
@@ -125,7 +125,7 @@ impl Outcome {
     }
 
     // The child is told by its digest.
-    pub(crate) fn of_split(a: SplitAnswer) -> Outcome {
+    pub(crate) fn of_split(a: Divided<Random>) -> Outcome {
         Outcome {
             refusal: words::refusal::number_of(a.refusal),
             value: Digest::new().generator(a.child).0,

@@ -9,13 +9,12 @@ use Rattle.words.specs.Draw.{Words, Drawn, all, short, refused, gives, outcome_o
 use Rattle.random.specs.declared.backend.Random.{Random}
 use Rattle.random.specs.Generator.{later, words_of}
 use Rattle.bounded.specs.declared.answers.Answer.{Answer}
-use Rattle.bounded.specs.declared.answers.EngineAnswer.{EngineAnswer}
 use Rattle.random.specs.declared.engine.Engine.{Engine}
 use Rattle.words.specs.declared.refusal.Refusal.{Refusal}
 use Rattle.words.specs.declared.reply.Given.{Given}
 use Rattle.words.specs.declared.reply.Reply.{Reply}
 use Rattle.words.specs.NumbersLaws.{number_positive, one_number}
-use Rattle.shuffle.specs.Replies.{done, done_by, done_in}
+use Rattle.shuffle.specs.Replies.{done, done_in_numbers}
 use Rattle.bounded.specs.OneAnswer.{next_after_used}
 use Rattle.lists.specs.Limit.{list_limit}
 use Rattle.shuffle.specs.Swap.{arranged}
@@ -26,7 +25,7 @@ use Rattle.shuffle.specs.ShuffleLaws.{shuffle_long, shuffle_drawn, list_long, li
 -- ---- "The new generator is the old one after that many words" (document 01, "Draws")
 
 -- The next generator is the old one after the words that the answer counts.
-pub shuffle_next : {a : Answer} {l' : List ℕ} (g : Random) (l : List ℕ) (budget : ℕ) → ShufflePromise g l budget a l'
+pub shuffle_next : {a : Answer Random} {l' : List ℕ} (g : Random) (l : List ℕ) (budget : ℕ) → ShufflePromise g l budget a l'
     → a.next ≡ later a.used g
 shuffle_next g l budget p = next_after_used g (shuffle_by (words_of g) (length l) budget) p.0
 
@@ -120,12 +119,7 @@ done_apart (Err r) (Err q) e = ap Err (one_number (ap (λ (o : Outcome). o.refus
 done_apart (Ok g) (Err q) e = absurd (let some = number_positive q in omega (arith, some, ap (λ (o : Outcome). o.refusal) e))
 done_apart (Err r) (Ok h) e = absurd (let some = number_positive r in omega (arith, some, ap (λ (o : Outcome). o.refusal) e))
 
-pub done_same_by : (a b : Reply (Unit {0}) Random) → done_by a ≡ done_by b → a ≡ b
-done_same_by a b h =
-    ap₂ (λ (g : Random) (t : Result (Given (Unit {0})) Refusal). record { next = g; told = t }) (ap (λ (x : Answer). x.next) h)
-    (done_apart a.told b.told (ap (λ (x : Answer). record { refusal = x.refusal; value = x.value; used = x.used }) h))
-
-pub done_same_in : (a b : Reply (Unit {0}) Engine) → done_in a ≡ done_in b → a ≡ b
-done_same_in a b h =
-    ap₂ (λ (e : Engine) (t : Result (Given (Unit {0})) Refusal). record { next = e; told = t }) (ap (λ (x : EngineAnswer). x.next) h)
-    (done_apart a.told b.told (ap (λ (x : EngineAnswer). record { refusal = x.refusal; value = x.value; used = x.used }) h))
+pub done_same_reply : {G : Type 0} (a b : Reply (Unit {0}) G) → done_in_numbers a ≡ done_in_numbers b → a ≡ b
+done_same_reply {G} a b h =
+    ap₂ (λ (g : G) (t : Result (Given (Unit {0})) Refusal). record { next = g; told = t }) (ap (λ (x : Answer G). x.next) h)
+    (done_apart a.told b.told (ap (λ (x : Answer G). record { refusal = x.refusal; value = x.value; used = x.used }) h))

@@ -3,7 +3,6 @@ use Rattle.std.specs.Prelude.{List, ◌≡◌, ℕ}
 use Rattle.std.proofs.Common.{sym, ◌∙◌}
 use Rattle.bounded.specs.OneAnswer.{answer_apart}
 use Rattle.bounded.specs.declared.answers.Answer.{Answer}
-use Rattle.bounded.specs.declared.answers.EngineAnswer.{EngineAnswer}
 use Rattle.random.specs.LentLaws.{joined_apart}
 use Rattle.random.specs.declared.backend.Random.{Random}
 use Rattle.random.specs.declared.engine.Engine.{Engine}
@@ -12,12 +11,12 @@ use Rattle.shuffle.specs.Promises.{OutcomeInPromise, OutcomeInTablePromise, Perf
 use Rattle.shuffle.specs.Promises.{ShuffleInPromise, ShufflePromise, SwapPromise}
 
 -- One answer and one list.
-pub one_shuffle : (g : Random) (list : List ℕ) (budget : ℕ) {a b : Answer} {list₁ list₂ : List ℕ}
+pub one_shuffle : (g : Random) (list : List ℕ) (budget : ℕ) {a b : Answer Random} {list₁ list₂ : List ℕ}
     → ShufflePromise g list budget a list₁ → ShufflePromise g list budget b list₂ → (a ≡ b) × (list₁ ≡ list₂)
 one_shuffle g list budget p q = (p.0 ∙ sym q.0, p.1 ∙ sym q.1)
 
 -- One answer, one table and one list.
-pub one_shuffle_in : (e : Engine) (mt list : List ℕ) (budget : ℕ) {a b : EngineAnswer} {mt₁ mt₂ list₁ list₂ : List ℕ}
+pub one_shuffle_in : (e : Engine) (mt list : List ℕ) (budget : ℕ) {a b : Answer Engine} {mt₁ mt₂ list₁ list₂ : List ℕ}
     → ShuffleInPromise e mt list budget a mt₁ list₁ → ShuffleInPromise e mt list budget b mt₂ list₂
     → (a ≡ b) × (mt₁ ≡ mt₂) × (list₁ ≡ list₂)
 one_shuffle_in e mt list budget p q =

@@ -9,7 +9,6 @@ use Rattle.words.specs.Numbers.{number_of}
 use Rattle.random.specs.declared.backend.Random.{Random}
 use Rattle.random.specs.declared.engine.Engine.{Engine}
 use Rattle.bounded.specs.declared.answers.Answer.{Answer}
-use Rattle.bounded.specs.declared.answers.EngineAnswer.{EngineAnswer}
 use Rattle.bounded.specs.Answers.{answer_in, answer_with}
 
 -- What it tells,
@@ -17,10 +16,6 @@ abbrev pub done : Result (Given (Unit {0})) Refusal → Outcome
 done (Ok g) = gives 0 g.used
 done (Err r) = refused (number_of r)
 
--- by value,
-abbrev pub done_by : Reply (Unit {0}) Random → Answer
-done_by a = answer_with (done a.told) a.next
-
--- and over a lent table.
-abbrev pub done_in : Reply (Unit {0}) Engine → EngineAnswer
-done_in a = answer_in (done a.told) a.next
+-- by value and over a lent table.
+abbrev pub done_in_numbers : {G : Type 0} → Reply (Unit {0}) G → Answer G
+done_in_numbers a = answer_with (done a.told) a.next

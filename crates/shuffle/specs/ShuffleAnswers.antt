@@ -9,7 +9,7 @@ use Rattle.random.specs.declared.engine.Engine.{Engine}
 use Rattle.random.specs.Generator.{later, words_of}
 use Rattle.random.specs.GeneratorLaws.{later_none}
 use Rattle.random.specs.Lent.{joined_with}
-use Rattle.bounded.specs.declared.answers.EngineAnswer.{EngineAnswer}
+use Rattle.bounded.specs.declared.answers.Answer.{Answer}
 use Rattle.bounded.specs.Answers.{answer_in, answer_from}
 use Rattle.lists.specs.Limit.{list_limit}
 use Rattle.rehearsal.specs.Rehearsal.{draws_of, rehearsed_of}
@@ -56,7 +56,7 @@ module _ (s : Words) (n budget : ℕ) where
 
 -- ---- and the call that goes by it
 
-module _ {o : Outcome} {a : EngineAnswer} (e : Engine) (mt list : List ℕ) (budget : ℕ)
+module _ {o : Outcome} {a : Answer Engine} (e : Engine) (mt list : List ℕ) (budget : ℕ)
     (told : OutcomeInPromise e mt (length list) budget o) where
   -- It is refused, and nothing has changed;
   pub shuffled_refused : (o.refusal ≡ answered → ⊥) → a ≡ answer_in o e → ShuffleInPromise e mt list budget a mt list

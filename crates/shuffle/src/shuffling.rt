@@ -1,6 +1,6 @@
 // The shuffle in place. Its draws don't depend on the list: so they are rehearsed, and made with their swaps only where all are settled.
 ghost use Rattle.shuffle.specs.Promises.{OutcomeInPromise, OutcomeInTablePromise, ShuffleInPromise, ShufflePromise};
-ghost use Rattle.shuffle.specs.Replies.{done, done_by, done_in};
+ghost use Rattle.shuffle.specs.Replies.{done, done_in_numbers};
 
 use crate::performing::{draws_of, perform_in};
 use lists::limit::LIST_LIMIT;
@@ -34,7 +34,7 @@ pub fn shuffle_in(
     list: &mut [u32],
     budget: u32,
 ) -> Reply<(), Engine>
-    ensures { ShuffleInPromise e mt.old list.old budget (done_in result) mt.new list.new }
+    ensures { ShuffleInPromise e mt.old list.old budget (done_in_numbers result) mt.new list.new }
 {
     match outcome_in(e, mt, list.len(), budget) {
         Ok(given) => Reply::gives((), given.used, perform_in(e, mt, list, budget)),
@@ -44,7 +44,7 @@ pub fn shuffle_in(
 
 // The list in an order drawn at random. Where it is refused the list is as it came.
 pub fn shuffle(g: Random, list: &mut [u32], budget: u32) -> Reply<(), Random>
-    ensures { ShufflePromise g list.old budget (done_by result) list.new }
+    ensures { ShufflePromise g list.old budget (done_in_numbers result) list.new }
 {
     let mut moved = g;
     let a = shuffle_in(random::engine_of(g), &mut moved.twister.mt, list, budget);

@@ -16,12 +16,12 @@ use Rattle.random.specs.GeneratorLaws.{later_none}
 use Rattle.words.specs.declared.refusal.Refusal.TheVariants as no
 use Rattle.words.specs.declared.reply.Reply.{Reply}
 use Rattle.words.specs.Numbers.{numbered}
-use Rattle.bounded.specs.Answers.{answer_from, joined_answer, Below, numbered_in}
+use Rattle.bounded.specs.Answers.{answer_from, joined_answer, Below, in_numbers}
 use Rattle.bounded.specs.AnswerLaws.{worked_answers}
 use Rattle.spans.specs.declared.counting.IntOutcome.{IntOutcome}
-use Rattle.spans.specs.IntAnswers.{IntEngineAnswer}
+use Rattle.spans.specs.IntAnswers.{IntAnswer}
 use Rattle.spans.specs.Spans.{signed_by, counted_from, counted_modulo}
-use Rattle.spans.specs.IntAnswers.{int_answer_with, int_answer_from, int_answer_in, int_numbered_in, joined_int}
+use Rattle.spans.specs.IntAnswers.{int_answer_with, int_answer_from, int_answer_in, int_in_numbers, joined_int}
 
 -- ---- outcomes with a signed value
 
@@ -50,18 +50,18 @@ counted_exact {min} {max} o f f' small = rw (worked_same (λ v. wrapped_sum 32 m
 -- ---- so the answer counted from min, as the code counts it, is the answer of the outcome counted from min,
 
 pub counted_answers : (a : Reply ℕ Engine) (b : Reply ℤ Engine) {t : List ℕ} {min max : ℤ}
-    (g : Random) (o : Outcome) → SFits w32 min → SFits w32 max → joined_answer (numbered_in a) t ≡ answer_from g o
-    → Below (gap min max + 1) (numbered_in a) → int_numbered_in b ≡ int_answer_in (counted_modulo min (numbered a.told)) a.next
-    → joined_int (int_numbered_in b) t ≡ int_answer_from g (counted_from min o)
+    (g : Random) (o : Outcome) → SFits w32 min → SFits w32 max → joined_answer (in_numbers a) t ≡ answer_from g o
+    → Below (gap min max + 1) (in_numbers a) → int_in_numbers b ≡ int_answer_in (counted_modulo min (numbered a.told)) a.next
+    → joined_int (int_in_numbers b) t ≡ int_answer_from g (counted_from min o)
 unfolding int_answer_from
 counted_answers a b {t} {min} g o f f' h small built =
     let exact = counted_exact (numbered a.told) f f' small in
-    ap (λ (x : IntEngineAnswer). joined_int x t) built
+    ap (λ (x : IntAnswer Engine). joined_int x t) built
     ∙ worked_answers int_answer_with (λ (x : IntOutcome). x.used) (counted_from min) g o h exact (counted_used min o)
 
 -- and so is a refusal of the arguments.
 pub counted_refused : {b : Reply ℤ Engine} (min : ℤ) (e : Engine) (t : List ℕ) → b ≡ record { next = e; told = Err no.Order }
-    → joined_int (int_numbered_in b) t ≡ int_answer_from (joined_with e t) (counted_from min (refused order))
+    → joined_int (int_in_numbers b) t ≡ int_answer_from (joined_with e t) (counted_from min (refused order))
 unfolding int_answer_from counted_from
 counted_refused min e t built =
     rw (built, signed_refused (λ v. min +ℤ pos v) (refused order) (λ z. absurd (omega (arith, z))), later_none (joined_with e t))

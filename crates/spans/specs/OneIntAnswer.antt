@@ -9,9 +9,8 @@ use Rattle.random.specs.GeneratorLaws.{later_none}
 use Rattle.random.specs.Lent.{joined_with, engine_in, table_in}
 use Rattle.random.specs.LentLaws.{joined_apart}
 use Rattle.spans.specs.IntAnswers.{IntAnswer}
-use Rattle.spans.specs.IntAnswers.{IntEngineAnswer}
 use Rattle.spans.specs.declared.counting.IntOutcome.{IntOutcome}
-use Rattle.spans.specs.IntAnswers.{int_answer_from, int_numbered, int_numbered_by, int_numbered_in, joined_int}
+use Rattle.spans.specs.IntAnswers.{int_answer_from, int_numbered, int_in_numbers, joined_int}
 use Rattle.words.specs.declared.refusal.Refusal.{Refusal}
 use Rattle.words.specs.declared.reply.Given.{Given}
 use Rattle.words.specs.declared.reply.Reply.{Reply}
@@ -19,7 +18,7 @@ use Rattle.words.specs.NumbersLaws.{number_positive, one_number}
 
 -- ---- by value
 
-module _ {a : IntAnswer} (g : Random) (o : IntOutcome) (p : a ≡ int_answer_from g o) where
+module _ {a : IntAnswer Random} (g : Random) (o : IntOutcome) (p : a ≡ int_answer_from g o) where
   pub int_next_after_used : a.next ≡ later a.used g
   unfolding int_answer_from
   int_next_after_used = rw p
@@ -31,13 +30,13 @@ module _ {a : IntAnswer} (g : Random) (o : IntOutcome) (p : a ≡ int_answer_fro
 
 -- ---- over a lent table
 
-pub int_answer_apart : {a b : IntEngineAnswer} {m m' : List ℕ} → joined_int a m ≡ joined_int b m' → (a ≡ b) × (m ≡ m')
+pub int_answer_apart : {a b : IntAnswer Engine} {m m' : List ℕ} → joined_int a m ≡ joined_int b m' → (a ≡ b) × (m ≡ m')
 int_answer_apart h = (
-  ap (λ (x : IntAnswer). record { refusal = x.refusal; value = x.value; used = x.used; next = engine_in x.next }) h,
-  ap (λ (x : IntAnswer). table_in x.next) h,
+  ap (λ (x : IntAnswer Random). record { refusal = x.refusal; value = x.value; used = x.used; next = engine_in x.next }) h,
+  ap (λ (x : IntAnswer Random). table_in x.next) h,
 )
 
-pub int_refused_unmoved_in : {a : IntEngineAnswer} {m' : List ℕ} (e : Engine) (m : List ℕ) (o : IntOutcome)
+pub int_refused_unmoved_in : {a : IntAnswer Engine} {m' : List ℕ} (e : Engine) (m : List ℕ) (o : IntOutcome)
     → joined_int a m' ≡ int_answer_from (joined_with e m) o → o.used ≡ 0 → (a.next ≡ e) × (m' ≡ m)
 int_refused_unmoved_in e m o p none = joined_apart (int_refused_unmoved (joined_with e m) o p none)
 
@@ -49,12 +48,7 @@ int_numbers_apart (Err r) (Err q) e = ap Err (one_number (ap (λ (o : IntOutcome
 int_numbers_apart (Ok g) (Err q) e = absurd (omega (arith, number_positive q, ap (λ (o : IntOutcome). o.refusal) e))
 int_numbers_apart (Err r) (Ok h) e = absurd (omega (arith, number_positive r, ap (λ (o : IntOutcome). o.refusal) e))
 
-pub int_same_by : (a b : Reply ℤ Random) → int_numbered_by a ≡ int_numbered_by b → a ≡ b
-int_same_by a b h =
-    ap₂ (λ (g : Random) (t : Result (Given ℤ) Refusal). record { next = g; told = t }) (ap (λ (x : IntAnswer). x.next) h)
-    (int_numbers_apart a.told b.told (ap (λ (x : IntAnswer). record { refusal = x.refusal; value = x.value; used = x.used }) h))
-
-pub int_same_in : (a b : Reply ℤ Engine) → int_numbered_in a ≡ int_numbered_in b → a ≡ b
-int_same_in a b h =
-    ap₂ (λ (e : Engine) (t : Result (Given ℤ) Refusal). record { next = e; told = t }) (ap (λ (x : IntEngineAnswer). x.next) h)
-    (int_numbers_apart a.told b.told (ap (λ (x : IntEngineAnswer). record { refusal = x.refusal; value = x.value; used = x.used }) h))
+pub int_same_reply : {G : Type 0} (a b : Reply ℤ G) → int_in_numbers a ≡ int_in_numbers b → a ≡ b
+int_same_reply {G} a b h =
+    ap₂ (λ (g : G) (t : Result (Given ℤ) Refusal). record { next = g; told = t }) (ap (λ (x : IntAnswer G). x.next) h)
+    (int_numbers_apart a.told b.told (ap (λ (x : IntAnswer G). record { refusal = x.refusal; value = x.value; used = x.used }) h))

@@ -18,7 +18,7 @@ use Rattle.random.specs.Generator.{word_of, step, later, words_of, rand_of}
 use Rattle.random.specs.GeneratorLaws.{later_none, later_one, word_at}
 use Rattle.random.specs.Lent.{joined_with, joined_word}
 use Rattle.random.specs.declared.backend.Random.{Random}
-use Rattle.bounded.specs.declared.answers.EngineAnswer.{EngineAnswer}
+use Rattle.bounded.specs.declared.answers.Answer.{Answer}
 use Rattle.bounded.specs.Answers.{AnswersIn, accepting}
 use Rattle.bounded.specs.AnswerLaws.{accepting_answers}
 use Rattle.spans.specs.Spans.{raw_by, span_by, uint_by, counted_from, int_by}
@@ -95,7 +95,7 @@ module _ (s : Words) (min max : ℤ) (budget : ℕ) where
 
 -- ---- the first word of a generator, as the code answers it
 
-pub raw_answers : {a : EngineAnswer} {w : Drawn ℕ Engine} {budget : ℕ} (e : Engine) (m m' : List ℕ) → 0 < budget
+pub raw_answers : {a : Answer Engine} {w : Drawn ℕ Engine} {budget : ℕ} (e : Engine) (m m' : List ℕ) → 0 < budget
     → joined_word w m' ≡ rand_of (joined_with e m) → a ≡ accepting w.word 1 w.next → AnswersIn e m (λ s. raw_by s budget) a m'
 unfolding rand_of
 raw_answers {w = w} {budget = budget} e m m' some d p =
@@ -106,6 +106,6 @@ raw_answers {w = w} {budget = budget} e m m' some d p =
     accepting_answers w.next m' g p (raw_word (words_of g) budget some ∙ ap (λ (v : ℕ). gives v 1) word) next
 
 -- no room between the ends: answered with 0, from no word
-pub span_answers : {a : EngineAnswer} (last budget : ℕ) (e : Engine) (m : List ℕ) → a ≡ accepting 0 0 e → last ≡ 0
+pub span_answers : {a : Answer Engine} (last budget : ℕ) (e : Engine) (m : List ℕ) → a ≡ accepting 0 0 e → last ≡ 0
     → AnswersIn e m (λ s. span_by s last budget) a m
 span_answers last budget e m p z = accepting_answers e m (joined_with e m) p (span_none _ _ _ z) (sym (later_none (joined_with e m)))

@@ -13,13 +13,13 @@ use Rattle.spans.specs.Promises.{UintPromise, IntPromise}
 use Rattle.spans.specs.SpanOutcomes.{uint_between, int_between}
 
 -- `uint`: from min up to max (document 01, "Draws")
-pub uint_value : {a : Answer} (g : Random) (min max budget : ℕ) → UintPromise g min max budget a → a.refusal ≡ answered
+pub uint_value : {a : Answer Random} (g : Random) (min max budget : ℕ) → UintPromise g min max budget a → a.refusal ≡ answered
     → (min ≤ a.value) × (a.value ≤ max)
 unfolding answer_from
 uint_value g min max budget p = rw p (uint_between (words_of g) min max budget (words_sized g))
 
 -- `int`, and `range` by its other name: from min up to max
-pub int_value : {a : IntAnswer} (g : Random) (min max : ℤ) (budget : ℕ) → IntPromise g min max budget a → a.refusal ≡ answered
+pub int_value : {a : IntAnswer Random} (g : Random) (min max : ℤ) (budget : ℕ) → IntPromise g min max budget a → a.refusal ≡ answered
     → (min ≤ℤ a.value) × (a.value ≤ℤ max)
 unfolding int_answer_from
 int_value g min max budget p = rw p (int_between (words_of g) min max budget (words_sized g))

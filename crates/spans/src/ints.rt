@@ -1,7 +1,7 @@
 // Signed numbers between two ends, both included. The span is worked out in 64 bits; what is drawn is counted from the lower end.
 ghost use Rattle.std.specs.Prelude.{◌≡◌};
 ghost use Rattle.words.specs.Numbers.{numbered};
-ghost use Rattle.spans.specs.IntAnswers.{int_answer_in, int_numbered_by, int_numbered_in};
+ghost use Rattle.spans.specs.IntAnswers.{int_answer_in, int_in_numbers};
 ghost use Rattle.spans.specs.Spans.{counted_modulo};
 ghost use Rattle.spans.specs.Promises.{IntInPromise, IntPromise, RangeInPromise, RangePromise};
 
@@ -11,7 +11,7 @@ use words::{Refusal, Reply};
 
 // What is drawn, counted from min modulo 2^32 and read back as signed.
 fn counted_in(min: i32, a: Reply<u32, Engine>) -> Reply<i32, Engine>
-    ensures { int_numbered_in result ≡ int_answer_in (counted_modulo min (numbered a.told)) a.next }
+    ensures { int_in_numbers result ≡ int_answer_in (counted_modulo min (numbered a.told)) a.next }
 {
     match a.told {
         Ok(given) => {
@@ -24,7 +24,7 @@ fn counted_in(min: i32, a: Reply<u32, Engine>) -> Reply<i32, Engine>
 
 // A number from min up to max. Where it is refused the table is as it came.
 pub fn int_in(e: Engine, mt: &mut [u32; 624], min: i32, max: i32, budget: u32) -> Reply<i32, Engine>
-    ensures { IntInPromise e mt.old min max budget (int_numbered_in result) mt.new }
+    ensures { IntInPromise e mt.old min max budget (int_in_numbers result) mt.new }
 {
     if max < min {
         return Reply::refuses(Refusal::Order, e);
@@ -35,7 +35,7 @@ pub fn int_in(e: Engine, mt: &mut [u32; 624], min: i32, max: i32, budget: u32) -
 
 // A number from min up to max.
 pub fn int(g: Random, min: i32, max: i32, budget: u32) -> Reply<i32, Random>
-    ensures { IntPromise g min max budget (int_numbered_by result) }
+    ensures { IntPromise g min max budget (int_in_numbers result) }
 {
     let mut moved = g;
     let a = int_in(
@@ -56,14 +56,14 @@ pub fn range_in(
     max: i32,
     budget: u32,
 ) -> Reply<i32, Engine>
-    ensures { RangeInPromise e mt.old min max budget (int_numbered_in result) mt.new }
+    ensures { RangeInPromise e mt.old min max budget (int_in_numbers result) mt.new }
 {
     int_in(e, mt, min, max, budget)
 }
 
 // `int` by its other name.
 pub fn range(g: Random, min: i32, max: i32, budget: u32) -> Reply<i32, Random>
-    ensures { RangePromise g min max budget (int_numbered_by result) }
+    ensures { RangePromise g min max budget (int_in_numbers result) }
 {
     int(g, min, max, budget)
 }

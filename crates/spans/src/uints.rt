@@ -1,5 +1,5 @@
 // Unsigned numbers between two ends, both included.
-ghost use Rattle.bounded.specs.Answers.{numbered_by, numbered_in};
+ghost use Rattle.bounded.specs.Answers.{in_numbers};
 ghost use Rattle.spans.specs.Promises.{UintInPromise, UintPromise};
 
 use crate::span::spanned_in;
@@ -14,7 +14,7 @@ pub fn uint_in(
     max: u32,
     budget: u32,
 ) -> Reply<u32, Engine>
-    ensures { UintInPromise e mt.old min max budget (numbered_in result) mt.new }
+    ensures { UintInPromise e mt.old min max budget (in_numbers result) mt.new }
 {
     if max < min {
         return Reply::refuses(Refusal::Order, e);
@@ -24,7 +24,7 @@ pub fn uint_in(
 
 // A number from min up to max.
 pub fn uint(g: Random, min: u32, max: u32, budget: u32) -> Reply<u32, Random>
-    ensures { UintPromise g min max budget (numbered_by result) }
+    ensures { UintPromise g min max budget (in_numbers result) }
 {
     let mut moved = g;
     let a = uint_in(

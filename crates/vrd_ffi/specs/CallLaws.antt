@@ -8,12 +8,11 @@ use Rattle.random.specs.declared.backend.Random.{Random}
 use Rattle.random.specs.declared.engine.Engine.{Engine}
 use Rattle.bounded.specs.Answers as library
 use Rattle.bounded.specs.declared.answers.Answer.{Answer}
-use Rattle.bounded.specs.declared.answers.EngineAnswer.{EngineAnswer}
 use Rattle.filling.specs.Fill.{FilledFrom}
 use Rattle.parts.specs.Decides.{Decides, decides_no}
 use Rattle.parts.specs.OwnParts.{own_parts}
 use Rattle.parts.specs.Splitting.{engine_split}
-use Rattle.parts.specs.Splitting.{EngineSplit}
+use Rattle.parts.specs.Splitting.{Divided}
 use Rattle.shuffle.specs.Shuffle.{shuffle_by, shuffled}
 use Rattle.vrd_ffi.specs.declared.answers.Number.{Number}
 use Rattle.lent_state.specs.Answers.{gives, formed, of_known}
@@ -25,13 +24,13 @@ use Rattle.lent_state.specs.State.{kind_in, engine_from, generator_in, state_wit
 -- ---- lists and buffers
 
 module _ (s t : List ℕ) (k : kind_in s ≤ 3) (u s' : List ℕ) where
-  pub list_shuffled : (list : List ℕ) (budget : ℕ) (a : EngineAnswer) (found : List ℕ)
+  pub list_shuffled : (list : List ℕ) (budget : ℕ) (a : Answer Engine) (found : List ℕ)
       → library.joined_answer a u ≡ library.answer_from (generator_in s t) (shuffle_by (words_of (generator_in s t)) (length list) budget)
       → found ≡ shuffled (words_of (generator_in s t)) list budget → s' ≡ state_after a.refusal a.next s
       → VrdShufflePromise s t list budget (number a.value a.used a.refusal) s' u found
   list_shuffled list budget a found h q w =
       settled s t _ _ k a.refusal (listed (number a.value a.used a.refusal) found) a.next u s' w
-      (ap₂ (λ (x : Answer) (l : List ℕ). formed (λ (y : Number). listed y l) (number_of x)) h q)
+      (ap₂ (λ (x : Answer Random) (l : List ℕ). formed (λ (y : Number). listed y l) (number_of x)) h q)
 
   pub bytes_filled : (dest bytes : List ℕ) (e : Engine) → FilledFrom (generator_in s t) (length dest) bytes (joined_with e u)
       → s' ≡ state_with e s → VrdFillBytesPromise s t dest refusal.answered s' u bytes
@@ -45,7 +44,7 @@ module _ (s c : List ℕ) where
   pub split_unknown : 3 < kind_in s → VrdSplitPromise s c refusal.kind s c
   split_unknown h = of_unknown s (halves refusal.kind s c) (divided s c (engine_split (engine_from s))) h
 
-  module _ (k : kind_in s ≤ 3) (d : EngineSplit) (q : d ≡ engine_split (engine_from s)) where
+  module _ (k : kind_in s ≤ 3) (d : Divided Engine) (q : d ≡ engine_split (engine_from s)) where
     pub split_refused : (d.refusal ≡ 0 → ⊥) → VrdSplitPromise s c d.refusal s c
     split_refused h =
         let same : halves d.refusal s c ≡ divided s c d = rw (ne_eqb d.refusal 0 h) in

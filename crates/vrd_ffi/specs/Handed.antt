@@ -27,7 +27,7 @@ use Rattle.float_draws.specs.declared.intervals.Spread.{Spread}
 use Rattle.float_draws.specs.declared.units.Fraction.{Fraction}
 use Rattle.making.specs.Make.{Made}
 use Rattle.parts.specs.OwnParts.{own_parts}
-use Rattle.parts.specs.Splitting.{EngineSplit}
+use Rattle.parts.specs.Splitting.{Divided}
 use Rattle.vrd_ffi.specs.declared.answers.Choice.{Choice}
 use Rattle.vrd_ffi.specs.declared.answers.Coin.{Coin}
 use Rattle.vrd_ffi.specs.declared.answers.Integer.{Integer}
@@ -73,19 +73,19 @@ abbrev pub choice : (place value used refusal : ℕ) → Choice
 choice p v u n = record { place = p; value = v; used = u; refusal = n }
 
 -- the library's number,
-abbrev pub number_of : Answer → Reply Number
+abbrev pub number_of : Answer Random → Reply Number
 number_of a = reply a.refusal (number a.value a.used a.refusal) a.next
 
 -- its signed number,
-abbrev pub integer_of : IntAnswer → Reply Integer
+abbrev pub integer_of : IntAnswer Random → Reply Integer
 integer_of a = reply a.refusal (integer a.value a.used a.refusal) a.next
 
 -- and its choice, handed out
-abbrev pub choice_of : Chosen → Reply Choice
+abbrev pub choice_of : Chosen Random → Reply Choice
 choice_of a = reply a.refusal (choice a.place a.value a.used a.refusal) a.next
 
 -- the value is the start
-abbrev pub start_of : SliceStart → Reply Number
+abbrev pub start_of : SliceStart Random → Reply Number
 start_of a = reply a.refusal (number a.start a.used a.refusal) a.next
 
 -- what the library's call tells of a start, as the code hands it out
@@ -173,7 +173,7 @@ abbrev pub halves : ℕ → List ℕ → List ℕ → Halves
 halves n a b = record { refusal = n; parent = a; child = b }
 
 -- the child is written, to a state that is made anew, where the call is answered
-abbrev pub divided : List ℕ → List ℕ → EngineSplit → Halves
+abbrev pub divided : List ℕ → List ℕ → Divided Engine → Halves
 divided s c d =
     cond (eqb d.refusal refusal.answered) (halves refusal.answered (state_with d.parent s) (state_of d.child))
     (halves d.refusal s c)

@@ -21,7 +21,6 @@ use Rattle.bounded.specs.Answers as library
 use Rattle.words.specs.OutcomeLaws.{raised_answered, raised_refused}
 use Rattle.words.specs.Outcomes.{raised}
 use Rattle.bounded.specs.declared.answers.Answer.{Answer}
-use Rattle.bounded.specs.declared.answers.EngineAnswer.{EngineAnswer}
 use Rattle.vrd_ffi.specs.declared.answers.Number.{Number}
 use Rattle.lent_state.specs.Answers.{Told, told, written}
 use Rattle.lent_state.specs.AnswersLaws.{unknown_kind, known_kind, settled}
@@ -112,7 +111,7 @@ positive zero h = absurd (h refl)
 positive (suc n) h = omega arith
 
 module _ (s t : List ℕ) (r budget least : ℕ) (room : least + r ≤ 2 ^ 32) where
-  pub library_draws : kind_in s ≤ 3 → (a : EngineAnswer) (u s' : List ℕ)
+  pub library_draws : kind_in s ≤ 3 → (a : Answer Engine) (u s' : List ℕ)
       → library.joined_answer a u ≡ library.answer_from (generator_in s t) (bounded_by (words_of (generator_in s t)) r budget)
       → (a.refusal ≡ 0 → a.value < r) → s' ≡ state_after a.refusal a.next s
       → Draws s t r budget least (packed a.refusal a.value a.used least) s' u
@@ -120,24 +119,24 @@ module _ (s t : List ℕ) (r budget least : ℕ) (room : least + r ≤ 2 ^ 32) w
   library_draws k a u s' h small w =
       let g = generator_in s t in
       let o = bounded_by (words_of g) r budget in
-      let n : a.refusal ≡ o.refusal = ap (λ (x : Answer). x.refusal) h in
-      let v : a.value ≡ o.value = ap (λ (x : Answer). x.value) h in
-      let m : a.used ≡ o.used = ap (λ (x : Answer). x.used) h in
-      let next : joined_with a.next u ≡ later o.used g = ap (λ (x : Answer). x.next) h in
+      let n : a.refusal ≡ o.refusal = ap (λ (x : Answer Random). x.refusal) h in
+      let v : a.value ≡ o.value = ap (λ (x : Answer Random). x.value) h in
+      let m : a.used ≡ o.used = ap (λ (x : Answer Random). x.used) h in
+      let next : joined_with a.next u ≡ later o.used g = ap (λ (x : Answer Random). x.next) h in
       let whole = packs least (bounded_is (words_of g) r budget) room (λ e. rw (sym v) (small (n ∙ e))) in
       settled s t (number 0 0 refusal.kind) (drawn_by (λ w. raised least (bounded_by w r budget))) k a.refusal _ a.next u s' w
       (let (same, used) = raised_keeps least o in rw (n, v, m, next, whole, same, used))
 
-  pub library_below : (a : EngineAnswer) (u : List ℕ)
+  pub library_below : (a : Answer Engine) (u : List ℕ)
       → library.joined_answer a u ≡ library.answer_from (generator_in s t) (bounded_by (words_of (generator_in s t)) r budget)
       → (a.refusal ≡ 0 → a.value < r) → Below r least (packed a.refusal a.value a.used least)
   unfolding library.answer_from
   library_below a u h small =
       let g = generator_in s t in
       let o = bounded_by (words_of g) r budget in
-      let n : a.refusal ≡ o.refusal = ap (λ (x : Answer). x.refusal) h in
-      let v : a.value ≡ o.value = ap (λ (x : Answer). x.value) h in
-      let m : a.used ≡ o.used = ap (λ (x : Answer). x.used) h in
+      let n : a.refusal ≡ o.refusal = ap (λ (x : Answer Random). x.refusal) h in
+      let v : a.value ≡ o.value = ap (λ (x : Answer Random). x.value) h in
+      let m : a.used ≡ o.used = ap (λ (x : Answer Random). x.used) h in
       let whole = packs least (bounded_is (words_of g) r budget) room (λ e. rw (sym v) (small (n ∙ e))) in
       λ z. rw (n, v, m, whole) (raised_below least r o (λ e. rw (sym v) (small (n ∙ e))) (rw (n, v, m, whole) at z))
 

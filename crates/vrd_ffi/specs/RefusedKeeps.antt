@@ -36,7 +36,7 @@ use Rattle.float_draws.specs.Spreads.{spread_from}
 use Rattle.making.specs.Make.{made_bytes}
 use Rattle.making.specs.Make.{Made}
 use Rattle.parts.specs.Splitting.{engine_split}
-use Rattle.parts.specs.Splitting.{EngineSplit}
+use Rattle.parts.specs.Splitting.{Divided}
 use Rattle.vrd_ffi.specs.declared.answers.Choice.{Choice}
 use Rattle.vrd_ffi.specs.declared.answers.Coin.{Coin}
 use Rattle.vrd_ffi.specs.declared.answers.Integer.{Integer}
@@ -306,12 +306,12 @@ split_keeps s c {r} {s'} {c'} p h =
           (p ∙ sym (of_known_lem s (halves refusal.kind s c) (divided s c split) k))
     ]
   where
-    split : EngineSplit
+    split : Divided Engine
     split = engine_split (engine_from s)
 
     parts : {n : ℕ} → halves r s' c' ≡ halves n s c → (s' ≡ s) × (c' ≡ c)
     parts q = (ap (λ (x : Halves). x.parent) q, ap (λ (x : Halves). x.child) q)
 
-    go : (d : EngineSplit) (b : Bool) → eqb d.refusal refusal.answered ≡ b → halves r s' c' ≡ divided s c d → (s' ≡ s) × (c' ≡ c)
+    go : (d : Divided Engine) (b : Bool) → eqb d.refusal refusal.answered ≡ b → halves r s' c' ≡ divided s c d → (s' ≡ s) × (c' ≡ c)
     go d true e q = absurd (h (ap (λ (x : Halves). x.refusal) (rw e at q)))
     go d false e q = parts (rw e at q)

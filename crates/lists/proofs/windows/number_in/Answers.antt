@@ -1,7 +1,7 @@
 -- `number_in` meets its contract: a draw below what is left of the list, where neither list nor window is refused.
 use Rattle.std.proofs.Common.{refl, sym, ◌∙◌, ap, arith}
 use Rattle.words.specs.NumbersLaws.{number_positive}
-use Rattle.bounded.specs.Answers.{numbered_in}
+use Rattle.bounded.specs.Answers.{in_numbers}
 use Rattle.lists.specs.CheckLaws.{slice_allowed_exactly_if}
 use Rattle.lists.specs.Slicing.{slice_by}
 use Rattle.lists.specs.CheckedAnswers.{passed_answers, refused_answers}
@@ -37,5 +37,5 @@ returns-in-Err c =
     let some = number_positive c.in-Err.refusal in
     let (answer, not) =
     refused_answers _ (sym (ap refusal_in c.in-Err.is) ∙ c.slice_check.ensures) _ _ (λ z. omega (arith, some, z))
-    (ap numbered_in c.refuses.ensures) in
+    (ap in_numbers c.refuses.ensures) in
     record { answer = answer; room = λ z. absurd (not z) }

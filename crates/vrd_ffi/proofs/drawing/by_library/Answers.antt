@@ -1,6 +1,6 @@
 -- `by_library` meets its contract: an unknown kind, and the library's answer, packed.
 use native.Mathlib.Omega.{arith}
-use Rattle.bounded.specs.Answers.{numbered_in}
+use Rattle.bounded.specs.Answers.{in_numbers}
 use Rattle.vrd_ffi.specs.PackedLaws.{packs_kind, kind_below, library_draws, library_below}
 use Rattle.vrd_ffi.proofs.drawing.by_library.Goals as goal
 
@@ -14,7 +14,7 @@ returns c =
     let drawn = rw c.engine_in.ensures at c.bounded_in-a.ensures.answer in
     let small = c.bounded_in-a.ensures.small in
     let state = rw c.numbered-o.ensures at c.settle.ensures in
-    let a = numbered_in c.bounded_in-a.result in
+    let a = in_numbers c.bounded_in-a.result in
     let draw = library_draws _ _ _ _ _ room (omega (arith, c.if-state-gt3.false)) a _ _ drawn small state in
     let below = library_below _ _ _ _ _ room a _ drawn small in
     record { draw = rw (c.pack.ensures, c.numbered-o.ensures) draw; small = rw (c.pack.ensures, c.numbered-o.ensures) below }
