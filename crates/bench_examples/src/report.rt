@@ -21,9 +21,7 @@ impl AddAssign for Tally {
 
 impl fmt::Display for Tally {
     fn fmt<W: fmt::Write>(&self, f: &mut fmt::Formatter<W>) -> fmt::Result {
-        let right = self.right;
-        let of = self.of;
-        write!(f, "{right} of {of} as in the document")
+        write!(f, "{} of {} as in the document", self.right, self.of)
     }
 }
 
@@ -89,9 +87,10 @@ pub(crate) fn tell(rt: &impl Print, said: Said) -> io::Result<()> {
         Ok(drawn) => (drawn, words::refusal::ANSWERED),
         Err(Refused(number)) => (Drawn::default(), number),
     };
-    let value = drawn.value;
-    let used = drawn.used;
-    print!(rt; ": value {value}, refusal {refusal}, words used {used}")
+    print!(rt;
+        ": value {}, refusal {refusal}, words used {}",
+        drawn.value, drawn.used
+    )
 }
 
 // The end of an example's line.

@@ -69,28 +69,23 @@ pub(crate) fn named(name: &[u8]) -> Option<Tried> {
 
 // A call by value, on a list where it takes one.
 pub(crate) fn ask(call: Call, row: Row, g: Random, list: &mut [u32], budget: u32) -> Told<Random> {
-    let first = row.first;
-    let second = row.second;
+    let (a, b) = (row.first.word(), row.second.word());
+    let (min, max) = (row.first.signed(), row.second.signed());
     match call {
-        Call::Bounded => told::number(bounded::bounded(g, second.word(), budget)),
-        Call::RandomRange => told::number(bounded::random_range(
-            g,
-            first.word(),
-            second.word(),
-            budget,
-        )),
-        Call::Uint => told::number(spans::uint(g, first.word(), second.word(), budget)),
+        Call::Bounded => told::number(bounded::bounded(g, b, budget)),
+        Call::RandomRange => told::number(bounded::random_range(g, a, b, budget)),
+        Call::Uint => told::number(spans::uint(g, a, b, budget)),
         Call::Char => told::number(bounded::char(g, budget)),
-        Call::Int => told::int(spans::int(g, first.signed(), second.signed(), budget)),
-        Call::Range => told::int(spans::range(g, first.signed(), second.signed(), budget)),
+        Call::Int => told::int(spans::int(g, min, max, budget)),
+        Call::Range => told::int(spans::range(g, min, max, budget)),
         Call::Choose => told::chosen(lists::choose(g, list, budget)),
         Call::Shuffle => told::shuffled(shuffle::shuffle(g, list, budget)),
         Call::RandSlice => told::start(lists::rand_slice(g, list, row.window, budget)),
-        Call::Bool => told::flip(float_draws::bool(g, first.float())),
+        Call::Bool => told::flip(float_draws::bool(g, row.first.float())),
         Call::Uniform => told::spread(float_draws::uniform(g, row.interval())),
         Call::Split => told::split(parts::split(g), g),
-        Call::Seed => told::only(None, making::seed(g, first.word())),
-        Call::SetMti => told::only(None, parts::set_mti(g, first.word())),
+        Call::Seed => told::only(None, making::seed(g, a)),
+        Call::SetMti => told::only(None, parts::set_mti(g, a)),
         Call::FillBytes => told::only(None, filling::fill_bytes(g, &mut [])),
     }
 }
@@ -104,29 +99,23 @@ fn ask_engine(
     budget: u32,
 ) -> Told<Engine> {
     let e = engine_of(g);
-    let first = row.first;
-    let second = row.second;
+    let (a, b) = (row.first.word(), row.second.word());
+    let (min, max) = (row.first.signed(), row.second.signed());
     match call {
-        Call::Bounded => told::number(bounded::bounded_in(e, mt, second.word(), budget)),
-        Call::RandomRange => told::number(bounded::random_range_in(
-            e,
-            mt,
-            first.word(),
-            second.word(),
-            budget,
-        )),
-        Call::Uint => told::number(spans::uint_in(e, mt, first.word(), second.word(), budget)),
+        Call::Bounded => told::number(bounded::bounded_in(e, mt, b, budget)),
+        Call::RandomRange => told::number(bounded::random_range_in(e, mt, a, b, budget)),
+        Call::Uint => told::number(spans::uint_in(e, mt, a, b, budget)),
         Call::Char => told::number(bounded::char_in(e, mt, budget)),
-        Call::Int => told::int(spans::int_in(e, mt, first.signed(), second.signed(), budget)),
-        Call::Range => told::int(spans::range_in(e, mt, first.signed(), second.signed(), budget)),
+        Call::Int => told::int(spans::int_in(e, mt, min, max, budget)),
+        Call::Range => told::int(spans::range_in(e, mt, min, max, budget)),
         Call::Choose => told::chosen(lists::choose_in(e, mt, list, budget)),
         Call::Shuffle => told::shuffled(shuffle::shuffle_in(e, mt, list, budget)),
         Call::RandSlice => told::start(lists::rand_slice_in(e, mt, list, row.window, budget)),
-        Call::Bool => told::flip(float_draws::bool_in(e, mt, first.float())),
+        Call::Bool => told::flip(float_draws::bool_in(e, mt, row.first.float())),
         Call::Uniform => told::spread(float_draws::uniform_in(e, mt, row.interval())),
         Call::Split => told::split_in(parts::split_in(e), g),
-        Call::Seed => told::only(None, making::seed_in(e, mt, first.word())),
-        Call::SetMti => told::only(None, parts::set_mti_in(e, first.word())),
+        Call::Seed => told::only(None, making::seed_in(e, mt, a)),
+        Call::SetMti => told::only(None, parts::set_mti_in(e, a)),
         Call::FillBytes => told::only(None, filling::fill_bytes_in(e, mt, &mut [])),
     }
 }

@@ -18,9 +18,7 @@ impl AddAssign for Tally {
 
 impl fmt::Display for Tally {
     fn fmt<W: fmt::Write>(&self, f: &mut fmt::Formatter<W>) -> fmt::Result {
-        let right = self.right;
-        let of = self.of;
-        write!(f, "{right} of {of} as ordered")
+        write!(f, "{} of {} as ordered", self.right, self.of)
     }
 }
 
@@ -36,10 +34,10 @@ pub(crate) struct Place {
 // A case counted, and told where it is not as ordered.
 pub(crate) fn judged(rt: &impl Print, right: bool, place: Place) -> io::Result<Tally> {
     if !right {
-        let line = place.line;
-        let number = place.number;
-        let budget = place.budget;
-        println!(rt; "NOT AS ORDERED    line, try, budget: {line} {number} {budget}")?;
+        println!(rt;
+            "NOT AS ORDERED    line, try, budget: {} {} {}",
+            place.line, place.number, place.budget
+        )?;
     }
     Ok(Tally {
         right: u64::from(right),

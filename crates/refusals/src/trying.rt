@@ -1,5 +1,5 @@
 // Each row of the table, tried on every generator, by value and over a lent table, at budgets on both sides of its need.
-ghost use Rattle.std.specs.Prelude.{◌<◌, ◌≤◌};
+ghost use Rattle.std.specs.Prelude.{◌≤◌};
 
 use crate::calls::{Call, Tried};
 use crate::generators::{KINDS, STATES, State};
@@ -31,8 +31,9 @@ struct Case {
 }
 
 impl Case {
-    // The budgets of the row on the generator: its own, or else those around what it needs. Around are one short of it, just that, one more,
-    // and the largest; where no word is needed, or the call is refused at any budget, or no word is ever good, 0, 1, and two large ones.
+    // The budgets of the row on the generator: its own, or else those around what it needs. Around are one short of it, just that, one
+    // more, and the largest; where no word is needed, or the call is refused at any budget, or no word is ever good, 0, 1, and two large
+    // ones.
     fn budgets(self, lists: &mut Lists) -> [u32; BUDGETS] {
         if let Some(own) = self.row.budget {
             return [own; BUDGETS];

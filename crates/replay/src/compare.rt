@@ -25,13 +25,10 @@ impl AddAssign for Tally {
 
 impl fmt::Display for Tally {
     fn fmt<W: fmt::Write>(&self, f: &mut fmt::Formatter<W>) -> fmt::Result {
-        let agree = self.agree;
-        let rows = self.rows;
-        let found = self.found;
-        let damages = self.damages;
         write!(
             f,
-            "{agree} of {rows} rows agree, and {found} of {damages} damages are told"
+            "{} of {} rows agree, and {} of {} damages are told",
+            self.agree, self.rows, self.found, self.damages
         )
     }
 }
@@ -56,13 +53,11 @@ struct Difference {
 
 impl fmt::Display for Difference {
     fn fmt<W: fmt::Write>(&self, f: &mut fmt::Formatter<W>) -> fmt::Result {
-        let row = self.place.row;
-        let word = self.place.word;
-        let recorded = self.recorded;
-        let here = self.here;
+        let Place { row, word } = self.place;
         write!(
             f,
-            "row {row} differs, answer word {word}: recorded 0x{recorded:08x}, here 0x{here:08x}"
+            "row {row} differs, answer word {word}: recorded 0x{:08x}, here 0x{:08x}",
+            self.recorded, self.here
         )
     }
 }
