@@ -16,6 +16,7 @@ fn byte(s: &[u8], at: usize, k: usize) -> u64
 }
 
 // The two bytes from there on, the lowest first.
+#[tactic(auto, using(crate::specs::BytesLaws::twice_as_many))]
 fn two_bytes(s: &[u8], at: usize, k: usize) -> u64
     requires { k + 2 ≤ 8 }
     ensures { LittleIs 2 s.now (at + k) result }
@@ -25,6 +26,7 @@ fn two_bytes(s: &[u8], at: usize, k: usize) -> u64
 }
 
 // The four bytes from there on, the lowest first.
+#[tactic(auto, using(crate::specs::BytesLaws::twice_as_many))]
 fn four_bytes(s: &[u8], at: usize, k: usize) -> u64
     requires { k + 4 ≤ 8 }
     ensures { LittleIs 4 s.now (at + k) result }
@@ -41,6 +43,7 @@ pub fn le_u32(s: &[u8], at: usize) -> u32
 }
 
 // The word of the eight bytes from the place `at` on, the lowest first.
+#[tactic(auto, using(crate::specs::BytesLaws::twice_as_many))]
 pub fn le_u64(s: &[u8], at: usize) -> u64
     ensures { LeU64Promise s.now at result }
 {

@@ -2,6 +2,7 @@
 ghost use Rattle.wrapping.specs.Promises.{RotateLeftU32Promise, RotateRightU32Promise};
 
 // x rotated left by k bits, k modulo 32.
+#[tactic(auto, using(crate::specs::RotateLaws::joined_left))]
 pub fn rotate_left_u32(x: u32, k: u32) -> u32
     ensures { RotateLeftU32Promise x k result }
 {
@@ -9,6 +10,7 @@ pub fn rotate_left_u32(x: u32, k: u32) -> u32
 }
 
 // x rotated right by k bits, k modulo 32.
+#[tactic(auto, using(crate::specs::RotateLaws::joined_right))]
 pub fn rotate_right_u32(x: u32, k: u32) -> u32
     ensures { RotateRightU32Promise x k result }
 {

@@ -2,6 +2,7 @@
 ghost use Rattle.wrapping.specs.Promises.{RotateLeftU64Promise, RotateRightU64Promise};
 
 // x rotated left by k bits, k modulo 64.
+#[tactic(auto, using(crate::specs::RotateLaws::joined_left))]
 pub fn rotate_left_u64(x: u64, k: u32) -> u64
     ensures { RotateLeftU64Promise x k result }
 {
@@ -9,6 +10,7 @@ pub fn rotate_left_u64(x: u64, k: u32) -> u64
 }
 
 // x rotated right by k bits, k modulo 64.
+#[tactic(auto, using(crate::specs::RotateLaws::joined_right))]
 pub fn rotate_right_u64(x: u64, k: u32) -> u64
     ensures { RotateRightU64Promise x k result }
 {
