@@ -11,6 +11,10 @@ use Rattle.pcg.specs.declared.pcg64.Pcg64.{Pcg64}
 use Rattle.xoshiro.specs.Generator as xoshiro
 use Rattle.xoshiro.specs.declared.Xoshiro256PlusPlus.{Xoshiro256PlusPlus}
 
+-- words in a row of a generator, by what it draws
+abbrev pub words_of : {A : Type 0} (drawn : A → Drawn ℕ A) → ℕ → A → Drawn ℕ A
+words_of drawn n g = record { word = xor_of (λ a. (drawn a).next) (λ a. (drawn a).word) n g; next = after (λ a. (drawn a).next) n g }
+
 -- words of kind 0 in a row,
 abbrev pub xoshiro_words : ℕ → Xoshiro256PlusPlus → Drawn ℕ Xoshiro256PlusPlus
 xoshiro_words n g = record { word = xor_of xoshiro.stepped xoshiro.output n g; next = after xoshiro.stepped n g }

@@ -5,5 +5,6 @@
 mod pcg32_calls;
 mod pcg64_calls;
 mod twister_calls;
+mod words_xored;
 mod wrapping_calls;
 mod xoshiro_calls;

@@ -3,6 +3,7 @@ ghost use Rattle.pcg.specs.Pcg32Promises.{Pcg32FromU64SeedPromise, Pcg32FromSeed
 ghost use Rattle.pcg.specs.Pcg32Promises.{Pcg32NextU64Promise};
 ghost use Rattle.bench_ffi.specs.Promises.{Pcg32WordsPromise};
 
+use crate::words_xored::xored32;
 use pcg::Pcg32;
 
 // A word of 32 bits and the generator after it, as C holds them: a generic type can't cross to C.
@@ -51,8 +52,10 @@ pub extern "C" fn pcg32_next_u32(g: Pcg32) -> Drawn32
     ensures { Pcg32NextU32Promise g record { word = result.word; next = result.next } }
 {
     let d = g.next_u32();
-    let next = d.next;
-    Drawn32 { word: d.word, next }
+    Drawn32 {
+        word: d.word,
+        next: d.next,
+    }
 }
 
 // The next two words as one of 64 bits, the low one first.
@@ -61,8 +64,10 @@ pub extern "C" fn pcg32_next_u64(g: Pcg32) -> Drawn64
     ensures { Pcg32NextU64Promise g record { word = result.word; next = result.next } }
 {
     let d = g.next_u64();
-    let next = d.next;
-    Drawn64 { word: d.word, next }
+    Drawn64 {
+        word: d.word,
+        next: d.next,
+    }
 }
 
 // The XOR of the next n 32-bit words, and the generator after them.
@@ -70,14 +75,9 @@ pub extern "C" fn pcg32_next_u64(g: Pcg32) -> Drawn64
 pub extern "C" fn pcg32_words(g: Pcg32, n: u64) -> Drawn32
     ensures { Pcg32WordsPromise g n record { word = result.word; next = result.next } }
 {
-    let mut next = g;
-    let mut word: u32 = 0;
-    let mut i: u64 = 0;
-    while i < n {
-        let d = next.next_u32();
-        word = word ^ d.word;
-        next = d.next;
-        i += 1;
+    let d = xored32(g, n);
+    Drawn32 {
+        word: d.word,
+        next: d.next,
     }
-    Drawn32 { word, next }
 }

@@ -3,6 +3,7 @@ ghost use Rattle.pcg.specs.Pcg64Promises.{Pcg64FromU128SeedPromise, Pcg64FromSee
 ghost use Rattle.pcg.specs.Pcg64Promises.{Pcg64NextU64Promise, Pcg64NextU32Promise};
 ghost use Rattle.bench_ffi.specs.Promises.{Pcg64WordsPromise};
 
+use crate::words_xored::xored64;
 use pcg::Pcg64;
 use wrapping::Wide;
 
@@ -52,8 +53,10 @@ pub extern "C" fn pcg64_next_u64(g: Pcg64) -> Drawn64
     ensures { Pcg64NextU64Promise g record { word = result.word; next = result.next } }
 {
     let d = g.next_u64();
-    let next = d.next;
-    Drawn64 { word: d.word, next }
+    Drawn64 {
+        word: d.word,
+        next: d.next,
+    }
 }
 
 // The high half of the next word.
@@ -62,8 +65,10 @@ pub extern "C" fn pcg64_next_u32(g: Pcg64) -> Drawn32
     ensures { Pcg64NextU32Promise g record { word = result.word; next = result.next } }
 {
     let d = g.next_u32();
-    let next = d.next;
-    Drawn32 { word: d.word, next }
+    Drawn32 {
+        word: d.word,
+        next: d.next,
+    }
 }
 
 // The XOR of the next n 64-bit words, and the generator after them.
@@ -71,14 +76,9 @@ pub extern "C" fn pcg64_next_u32(g: Pcg64) -> Drawn32
 pub extern "C" fn pcg64_words(g: Pcg64, n: u64) -> Drawn64
     ensures { Pcg64WordsPromise g n record { word = result.word; next = result.next } }
 {
-    let mut next = g;
-    let mut word: u64 = 0;
-    let mut i: u64 = 0;
-    while i < n {
-        let d = next.next_u64();
-        word = word ^ d.word;
-        next = d.next;
-        i += 1;
+    let d = xored64(g, n);
+    Drawn64 {
+        word: d.word,
+        next: d.next,
     }
-    Drawn64 { word, next }
 }

@@ -3,6 +3,7 @@ ghost use Rattle.mersenne_twister.specs.Promises.{SeedInPromise, FromSeedInPromi
 ghost use Rattle.mersenne_twister.specs.Promises.{StoredPositionPromise, TwisterFromU32SeedPromise, TwisterRandPromise};
 ghost use Rattle.bench_ffi.specs.Promises.{TwisterWordsInPromise, TwisterWordsPromise};
 
+use crate::words_xored::xored32;
 use mersenne_twister::MersenneTwister;
 
 // A word of 32 bits and the position after it, as C holds them: a generic type can't cross to C.
@@ -87,17 +88,16 @@ pub extern "C" fn mt_set_mti(value: u32) -> u32
 
 // The XOR of the next n words over a lent table, and the position after them.
 #[unsafe(no_mangle)]
+#[tactic(auto, unfolding(crate::specs::Steps::after, crate::specs::Steps::xor_of))]
 pub extern "C" fn mt_words(mt: &mut [u32; 624], mti: u32, n: u64) -> Step
     ensures { TwisterWordsInPromise mt.old mti n record { word = result.word; mti = result.mti } mt.new }
 {
     let mut at = mti;
     let mut word: u32 = 0;
-    let mut i: u64 = 0;
-    while i < n {
+    for _i in 0..n {
         let d = mersenne_twister::rand_in(mt, at);
-        word = word ^ d.word;
+        word ^= d.word;
         at = d.mti;
-        i += 1;
     }
     Step { word, mti: at }
 }
@@ -116,8 +116,10 @@ pub extern "C" fn mt_value_rand(g: MersenneTwister) -> Drawn32
     ensures { TwisterRandPromise g record { word = result.word; next = result.next } }
 {
     let d = g.rand();
-    let next = d.next;
-    Drawn32 { word: d.word, next }
+    Drawn32 {
+        word: d.word,
+        next: d.next,
+    }
 }
 
 // The XOR of the next n words, each through the call by value, and the generator after them.
@@ -125,14 +127,9 @@ pub extern "C" fn mt_value_rand(g: MersenneTwister) -> Drawn32
 pub extern "C" fn mt_value_words(g: MersenneTwister, n: u64) -> Drawn32
     ensures { TwisterWordsPromise g n record { word = result.word; next = result.next } }
 {
-    let mut next = g;
-    let mut word: u32 = 0;
-    let mut i: u64 = 0;
-    while i < n {
-        let d = next.rand();
-        word = word ^ d.word;
-        next = d.next;
-        i += 1;
+    let d = xored32(g, n);
+    Drawn32 {
+        word: d.word,
+        next: d.next,
     }
-    Drawn32 { word, next }
 }

@@ -3,6 +3,7 @@ ghost use Rattle.xoshiro.specs.Promises.{XoshiroFromU64SeedPromise, XoshiroFromS
 ghost use Rattle.xoshiro.specs.Promises.{XoshiroJumpPromise};
 ghost use Rattle.bench_ffi.specs.Promises.{XoshiroWordsPromise};
 
+use crate::words_xored::xored64;
 use xoshiro::Xoshiro256PlusPlus;
 
 // A word of 32 bits and the generator after it, as C holds them: a generic type can't cross to C.
@@ -43,8 +44,10 @@ pub extern "C" fn xoshiro_next_u64(g: Xoshiro256PlusPlus) -> Drawn64
     ensures { XoshiroNextU64Promise g record { word = result.word; next = result.next } }
 {
     let d = g.next_u64();
-    let next = d.next;
-    Drawn64 { word: d.word, next }
+    Drawn64 {
+        word: d.word,
+        next: d.next,
+    }
 }
 
 // The high half of the next word.
@@ -53,8 +56,10 @@ pub extern "C" fn xoshiro_next_u32(g: Xoshiro256PlusPlus) -> Drawn32
     ensures { XoshiroNextU32Promise g record { word = result.word; next = result.next } }
 {
     let d = g.next_u32();
-    let next = d.next;
-    Drawn32 { word: d.word, next }
+    Drawn32 {
+        word: d.word,
+        next: d.next,
+    }
 }
 
 // The generator 2^128 words on.
@@ -70,14 +75,9 @@ pub extern "C" fn xoshiro_jump(g: Xoshiro256PlusPlus) -> Xoshiro256PlusPlus
 pub extern "C" fn xoshiro_words(g: Xoshiro256PlusPlus, n: u64) -> Drawn64
     ensures { XoshiroWordsPromise g n record { word = result.word; next = result.next } }
 {
-    let mut next = g;
-    let mut word: u64 = 0;
-    let mut i: u64 = 0;
-    while i < n {
-        let d = next.next_u64();
-        word = word ^ d.word;
-        next = d.next;
-        i += 1;
+    let d = xored64(g, n);
+    Drawn64 {
+        word: d.word,
+        next: d.next,
     }
-    Drawn64 { word, next }
 }

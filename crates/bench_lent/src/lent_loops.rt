@@ -33,13 +33,11 @@ fn draws_row(e: Engine, mt: &mut [u32; 624], r: u32, budget: u32, n: u64) -> Eng
     let mut next = e;
     let mut sum: u64 = 0;
     let mut used: u64 = 0;
-    let mut i: u64 = 0;
-    while i < n {
+    for _i in 0..n {
         let a = bounded::bounded_in(next, mt, r, budget);
-        sum = std::num::wrapping_add_u64(sum, a.value as u64);
-        used = std::num::wrapping_add_u64(used, a.used as u64);
+        sum = sum.wrapping_add(a.value as u64);
+        used = used.wrapping_add(a.used as u64);
         next = a.next;
-        i += 1;
     }
     EngineSums { next, sum, used }
 }
@@ -63,8 +61,7 @@ pub fn bench_draws_in(
     }
     let held = held_in(state);
     let s = draws_row(held.engine, table, r, budget, n);
-    let e = s.next;
-    write(e, state);
+    write(s.next, state);
     Sums {
         sum: s.sum,
         used: s.used,

@@ -24,12 +24,10 @@ fn words_by_value(g: Random, n: u64) -> Drawn<u32, Random>
 {
     let mut next = g;
     let mut word: u32 = 0;
-    let mut i: u64 = 0;
-    while i < n {
+    for _i in 0..n {
         let d = random::rand(next);
-        word = word ^ d.word;
+        word ^= d.word;
         next = d.next;
-        i += 1;
     }
     Drawn { word, next }
 }
@@ -51,10 +49,9 @@ pub extern "C" fn bench_words_by_value(
     }
     let held = held_in(state);
     let d = words_by_value(with_table(held.engine, *table), n);
-    let next = d.next;
-    let mt = next.twister.mt;
+    let mt = d.next.twister.mt;
     *table = mt;
-    write(engine_of(next), state);
+    write(engine_of(d.next), state);
     Xored {
         value: d.word as u64,
         refusal: refusal::ANSWERED,
@@ -76,13 +73,11 @@ fn draws_by_value(g: Random, r: u32, budget: u32, n: u64) -> RandomSums
     let mut next = g;
     let mut sum: u64 = 0;
     let mut used: u64 = 0;
-    let mut i: u64 = 0;
-    while i < n {
+    for _i in 0..n {
         let a = bounded::bounded(next, r, budget);
-        sum = std::num::wrapping_add_u64(sum, a.value as u64);
-        used = std::num::wrapping_add_u64(used, a.used as u64);
+        sum = sum.wrapping_add(a.value as u64);
+        used = used.wrapping_add(a.used as u64);
         next = a.next;
-        i += 1;
     }
     RandomSums { sum, used, next }
 }
@@ -108,10 +103,9 @@ pub extern "C" fn bench_draws_by_value(
     }
     let held = held_in(state);
     let s = draws_by_value(with_table(held.engine, *table), r, budget, n);
-    let next = s.next;
-    let mt = next.twister.mt;
+    let mt = s.next.twister.mt;
     *table = mt;
-    write(engine_of(next), state);
+    write(engine_of(s.next), state);
     Sums {
         sum: s.sum,
         used: s.used,

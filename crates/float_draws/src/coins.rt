@@ -27,16 +27,14 @@ pub fn bool_in(e: Engine, mt: &mut [u32; 624], p: f64) -> Flip<Engine>
     ensures { BoolInPromise e mt.old p result mt.new }
 {
     if floats::is_chance(p) {
-        let backend = e.backend;
-        let used = steps(backend);
+        let used = steps(e.backend);
         let d = random::next_u64(e, mt);
-        let next = d.next;
         let coin = floats::chance(p, d.word);
         return Flip {
             refusal: coin.refusal,
             value: coin.value,
             used,
-            next,
+            next: d.next,
         };
     }
     Flip {
@@ -53,9 +51,7 @@ pub fn bool(g: Random, p: f64) -> Flip<Random>
 {
     let mut moved = g;
     let d = bool_in(engine_of(g), &mut moved.twister.mt, p);
-    let e = d.next;
-    let mt = moved.twister.mt;
-    let next = with_table(e, mt);
+    let next = with_table(d.next, moved.twister.mt);
     Flip {
         refusal: d.refusal,
         value: d.value,

@@ -19,9 +19,11 @@ pub fn uniform_in(e: Engine, mt: &mut [u32; 624], i: Interval) -> Spread<Engine>
     let refused = floats::interval_refusal(i);
     if refused == refusal::ANSWERED {
         let d = random::next_u64(e, mt);
-        let next = d.next;
         let answer = floats::uniform_of(i, d.word);
-        return Spread { answer, next };
+        return Spread {
+            answer,
+            next: d.next,
+        };
     }
     Spread {
         answer: Uniform::Refused(refused),
@@ -36,9 +38,9 @@ pub fn uniform(g: Random, i: Interval) -> Spread<Random>
 {
     let mut moved = g;
     let d = uniform_in(engine_of(g), &mut moved.twister.mt, i);
-    let e = d.next;
-    let mt = moved.twister.mt;
-    let next = with_table(e, mt);
-    let answer = d.answer;
-    Spread { answer, next }
+    let next = with_table(d.next, moved.twister.mt);
+    Spread {
+        answer: d.answer,
+        next,
+    }
 }

@@ -15,10 +15,9 @@ pub fn float_in(e: Engine, mt: &mut [u32; 624]) -> Fraction<f32, Engine>
     ensures { FloatInPromise e mt.old result mt.new }
 {
     let d = random::next_u32(e, mt);
-    let next = d.next;
     Fraction {
         value: floats::float_of(d.word),
-        next,
+        next: d.next,
     }
 }
 
@@ -27,10 +26,9 @@ pub fn double_in(e: Engine, mt: &mut [u32; 624]) -> Fraction<f64, Engine>
     ensures { DoubleInPromise e mt.old result mt.new }
 {
     let d = random::next_u64(e, mt);
-    let next = d.next;
     Fraction {
         value: floats::double_of(d.word),
-        next,
+        next: d.next,
     }
 }
 
@@ -40,9 +38,7 @@ pub fn float(g: Random) -> Fraction<f32, Random>
 {
     let mut moved = g;
     let d = float_in(engine_of(g), &mut moved.twister.mt);
-    let e = d.next;
-    let mt = moved.twister.mt;
-    let next = with_table(e, mt);
+    let next = with_table(d.next, moved.twister.mt);
     Fraction {
         value: d.value,
         next,
@@ -55,9 +51,7 @@ pub fn double(g: Random) -> Fraction<f64, Random>
 {
     let mut moved = g;
     let d = double_in(engine_of(g), &mut moved.twister.mt);
-    let e = d.next;
-    let mt = moved.twister.mt;
-    let next = with_table(e, mt);
+    let next = with_table(d.next, moved.twister.mt);
     Fraction {
         value: d.value,
         next,

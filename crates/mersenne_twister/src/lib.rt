@@ -62,8 +62,7 @@ impl MersenneTwister {
     pub fn rand(mut self) -> Drawn<u32, MersenneTwister>
         ensures { TwisterRandPromise self result }
     {
-        let mti = self.mti;
-        let step = rand_in(&mut self.mt, mti);
+        let step = rand_in(&mut self.mt, self.mti);
         self.mti = step.mti;
         Drawn {
             word: step.word,
@@ -75,8 +74,7 @@ impl MersenneTwister {
     pub fn next_u64(mut self) -> Drawn<u64, MersenneTwister>
         ensures { TwisterNextU64Promise self result }
     {
-        let mti = self.mti;
-        let step = next_u64_in(&mut self.mt, mti);
+        let step = next_u64_in(&mut self.mt, self.mti);
         self.mti = step.mti;
         Drawn {
             word: step.word,

@@ -97,12 +97,10 @@ impl Pcg32 {
         ensures { Pcg32NextU64Promise self result }
     {
         let low = self.next_u32();
-        let between = low.next;
-        let high = between.next_u32();
-        let next = high.next;
+        let high = low.next.next_u32();
         Drawn {
             word: (high.word as u64) * 0x1_0000_0000 + (low.word as u64),
-            next,
+            next: high.next,
         }
     }
 }

@@ -103,11 +103,13 @@ impl Pcg64 {
         ensures { Pcg64NextU64Promise self result }
     {
         let old = self.state;
-        let inc = self.inc;
-        let state = next_state(old, inc);
+        let state = next_state(old, self.inc);
         Drawn {
             word: word_of(old),
-            next: Pcg64 { state, inc },
+            next: Pcg64 {
+                state,
+                inc: self.inc,
+            },
         }
     }
 
@@ -116,10 +118,9 @@ impl Pcg64 {
         ensures { Pcg64NextU32Promise self result }
     {
         let d = self.next_u64();
-        let next = d.next;
         Drawn {
             word: (d.word >> 32) as u32,
-            next,
+            next: d.next,
         }
     }
 }

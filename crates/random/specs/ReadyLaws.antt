@@ -35,6 +35,14 @@ made_already g h = rw h
 pub made_below : (g : Random) → g.twister.mti < 624 → made_ready g ≡ g
 made_below g h = made_already g (ready_below g.backend g.twister h)
 
+-- and off the table it stays whatever the position
+pub made_off_table : (b : Backend) (t : twister_type.MersenneTwister) → (b ≡ MersenneTwister → ⊥) → made_ready (gen b t) ≡ gen b t
+unfolding made_ready
+made_off_table (Xoshiro256PlusPlus x) t other = refl
+made_off_table MersenneTwister t other = absurd (other refl)
+made_off_table (Pcg32 p) t other = refl
+made_off_table (Pcg64 p) t other = refl
+
 -- where it is surely ready, over a lent table
 pub drawn_surely : {b : Bool} (e : Engine) (m : List ℕ) → b ≡ surely_ready e → b ≡ true
     → drawn_ready (joined_with e m) ≡ rand_of (joined_with e m)

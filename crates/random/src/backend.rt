@@ -24,10 +24,5 @@ pub struct Random {
 pub fn on_table(backend: Backend) -> bool
     ensures { OnTablePromise backend result }
 {
-    match backend {
-        Backend::Xoshiro256PlusPlus(_) => false,
-        Backend::MersenneTwister => true,
-        Backend::Pcg32(_) => false,
-        Backend::Pcg64(_) => false,
-    }
+    matches!(backend, Backend::MersenneTwister)
 }

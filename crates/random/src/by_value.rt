@@ -13,9 +13,8 @@ use source::{Drawn, Source};
 pub fn engine_of(g: Random) -> Engine
     ensures { EngineOfPromise g result }
 {
-    let backend = g.backend;
     Engine {
-        backend,
+        backend: g.backend,
         mti: g.twister.mti,
     }
 }
@@ -24,9 +23,11 @@ pub fn engine_of(g: Random) -> Engine
 pub fn with_table(e: Engine, mt: [u32; 624]) -> Random
     ensures { WithTablePromise e mt result }
 {
-    let backend = e.backend;
     let twister = MersenneTwister { mt, mti: e.mti };
-    Random { backend, twister }
+    Random {
+        backend: e.backend,
+        twister,
+    }
 }
 
 // The next word.
@@ -36,9 +37,7 @@ pub fn rand(g: Random) -> Drawn<u32, Random>
 {
     let mut moved = g;
     let d = lent::next_u32(engine_of(g), &mut moved.twister.mt);
-    let e = d.next;
-    let mt = moved.twister.mt;
-    let next = with_table(e, mt);
+    let next = with_table(d.next, moved.twister.mt);
     Drawn { word: d.word, next }
 }
 
@@ -48,9 +47,7 @@ pub fn u64(g: Random) -> Drawn<u64, Random>
 {
     let mut moved = g;
     let d = lent::next_u64(engine_of(g), &mut moved.twister.mt);
-    let e = d.next;
-    let mt = moved.twister.mt;
-    let next = with_table(e, mt);
+    let next = with_table(d.next, moved.twister.mt);
     Drawn { word: d.word, next }
 }
 
@@ -59,9 +56,10 @@ pub fn i64(g: Random) -> Drawn<i64, Random>
     ensures { I64Promise g result }
 {
     let d = u64(g);
-    let next = d.next;
-    let word = signed::signed_u64(d.word);
-    Drawn { word, next }
+    Drawn {
+        word: signed::signed_u64(d.word),
+        next: d.next,
+    }
 }
 
 // The next 32 words, XORed.
@@ -70,9 +68,7 @@ pub fn pseudo(g: Random) -> Drawn<u32, Random>
 {
     let mut moved = g;
     let d = lent::pseudo_in(engine_of(g), &mut moved.twister.mt);
-    let e = d.next;
-    let mt = moved.twister.mt;
-    let next = with_table(e, mt);
+    let next = with_table(d.next, moved.twister.mt);
     Drawn { word: d.word, next }
 }
 

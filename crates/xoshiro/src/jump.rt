@@ -46,17 +46,12 @@ fn turn(j: Jumping, i: usize) -> Jumping
     requires { i < 256 }
     ensures { result ≡ turned i j }
 {
-    let at = j.at;
-    let sum = j.sum;
-    let next = at.step();
+    let at = j.at.step();
     if jump_bit(i) == 1 {
-        let more = xor(sum, at);
-        Jumping {
-            sum: more,
-            at: next,
-        }
+        let sum = xor(j.sum, j.at);
+        Jumping { sum, at }
     } else {
-        Jumping { sum: sum, at: next }
+        Jumping { sum: j.sum, at }
     }
 }
 

@@ -70,10 +70,9 @@ impl Xoshiro256PlusPlus {
         ensures { XoshiroNextU32Promise self result }
     {
         let d = self.next_u64();
-        let next = d.next;
         Drawn {
             word: (d.word >> 32) as u32,
-            next,
+            next: d.next,
         }
     }
 }

@@ -1,12 +1,8 @@
 -- `mt_words` meets its contract. The loop's invariant: it has come i words far.
-use Prim.Native.Nat.{◌≤◌, ◌-◌}
 use Rattle.mersenne_twister.specs.Table.{held}
 use Rattle.bench_ffi.specs.Loops.{twister_step, twister_word}
 use Rattle.bench_ffi.specs.Steps.{Came}
 use Rattle.bench_ffi.proofs.twister_calls.mt_words.Given as goal
 
 abbrev pub invariant-loop-i : goal.invariant-loop-i
-invariant-loop-i l = (l.i ≤ l.n) × Came twister_step twister_word (held l.initial.mt l.initial.at) l.i (held l.mt l.at) l.word
-
-abbrev pub decreases-loop-i : goal.decreases-loop-i
-decreases-loop-i l = l.n - l.i
+invariant-loop-i l = Came twister_step twister_word (held l.initial.mt l.initial.at) l._i (held l.mt l.at) l.word

@@ -7,4 +7,4 @@ use Rattle.random.proofs.by_value.i64.Goals as goal
 pub returns : goal.returns
 returns c =
     let word = c.u64-d in
-    rw (result_read w64 _ c.signed_u64-word.type_inv, c.signed_u64-word.ensures) (i64_is _ word.result word.ensures)
+    rw (result_read w64 _ c.signed_u64.type_inv, c.signed_u64.ensures) (i64_is _ word.result word.ensures)
