@@ -21,7 +21,7 @@ fn source_words<S: Source>(g: S, list: &mut [u32]) -> S
     next
 }
 
-// The same of the twister, whose table is lent.
+// The same of the twister, whose table is lent: a loop of its own, since a source is handed on by value at each word.
 fn twister_words(mt: &mut [u32; 624], mti: u32, list: &mut [u32]) -> u32
     ensures { TwisterPut mt.old mti (length list.old) list.old list.new
         mt.new result }

@@ -5,11 +5,11 @@ ghost use Rattle.lent_state.specs.Promises.{LentSettlePromise, LentBeginPromise}
 use random::{Backend, Engine};
 use words::refusal;
 
-// Other small words.
+// Other small words. The compiler leaves out the words that stay.
 pub fn put_small(a: u64, b: u64, c: u64, d: u64, state: &mut [u64; 6])
     ensures { PutSmallPromise state.old a b c d state.new }
 {
-    state[2..].copy_from_slice(&[a, b, c, d]);
+    *state = [state[0], state[1], a, b, c, d];
 }
 
 // Another position.
@@ -27,11 +27,11 @@ pub fn write(e: Engine, state: &mut [u64; 6])
     match e.backend {
         Backend::Xoshiro256PlusPlus(x) => {
             state[0] = 0;
-            state[2..].copy_from_slice(&[x.s0, x.s1, x.s2, x.s3]);
+            put_small(x.s0, x.s1, x.s2, x.s3, state);
         }
         Backend::MersenneTwister => {
             state[0] = 1;
-            state[1] = e.mti as u64;
+            put_position(e.mti, state);
         }
         Backend::Pcg32(p) => {
             state[0] = 2;
@@ -40,7 +40,7 @@ pub fn write(e: Engine, state: &mut [u64; 6])
         }
         Backend::Pcg64(p) => {
             state[0] = 3;
-            state[2..].copy_from_slice(&[p.state.high, p.state.low, p.inc.high, p.inc.low]);
+            put_small(p.state.high, p.state.low, p.inc.high, p.inc.low, state);
         }
     }
 }

@@ -44,7 +44,7 @@ fn source_run<S: Source>(g: S, d: Draws) -> Rehearsed
     }
 }
 
-// The draws on the table itself, which they move.
+// The draws on the twister's table itself, which they move: a loop of its own, since a source is handed on by value at each word.
 fn twister_run(mt: &mut [u32; 624], mti: u32, d: Draws) -> Rehearsed
     ensures { TwisterTold mt.old mti d result }
 {
