@@ -18,16 +18,16 @@ pub struct Sums {
     pub refusal: u32,
 }
 
-// What draws come to: the sums, and the engine after them.
+// What draws come to: the sums, and the generator after them, by value or as an engine.
 #[derive(Clone, Copy)]
-struct EngineSums {
-    next: Engine,
-    sum: u64,
-    used: u64,
+pub struct Total<G> {
+    pub next: G,
+    pub sum: u64,
+    pub used: u64,
 }
 
 // n draws below r in a row. A refused draw adds nothing, and the next one begins where it did.
-fn draws_row(e: Engine, mt: &mut [u32; 624], r: u32, budget: u32, n: u64) -> EngineSums
+fn draws_row(e: Engine, mt: &mut [u32; 624], r: u32, budget: u32, n: u64) -> Total<Engine>
     ensures { lent_total result mt.new ≡ draws_row r budget n (joined_with e mt.old) }
 {
     let mut next = e;
@@ -40,7 +40,7 @@ fn draws_row(e: Engine, mt: &mut [u32; 624], r: u32, budget: u32, n: u64) -> Eng
         used = used.wrapping_add(o.used as u64);
         next = a.next;
     }
-    EngineSums { next, sum, used }
+    Total { next, sum, used }
 }
 
 // n draws below r in a row, each within the budget.

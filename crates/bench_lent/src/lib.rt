@@ -4,4 +4,4 @@
 
 mod lent_loops;
 
-pub use lent_loops::{Sums, bench_draws_in};
+pub use lent_loops::{Sums, Total, bench_draws_in};

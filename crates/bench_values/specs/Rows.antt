@@ -1,21 +1,15 @@
--- Words in a row from a generator of any kind, XORed, and the generator after them; and what the loop over draws has. Draws in a row are
--- those of the loop over a lent table.
+-- Words in a row from a generator of any kind, XORed, and the generator after them. Draws in a row are those of the loop over a lent
+-- table.
 use Rattle.std.specs.Prelude.{ℕ}
 use Rattle.random.specs.Generator.{later, words_of, xor_of}
 use Rattle.random.specs.declared.backend.Random.{Random}
 use Rattle.source.specs.declared.Drawn.{Drawn}
 use Rattle.lent_state.specs.Answers.{Reply, gives}
-use Rattle.bench_lent.specs.Rows.{Total}
-use Rattle.bench_values.specs.declared.value_loops.RandomSums.{RandomSums}
 use Rattle.bench_values.specs.declared.value_loops.Xored.{Xored}
 
 -- n words XORed
 abbrev pub words_row : ℕ → Random → Drawn ℕ Random
 words_row n g = record { word = xor_of (words_of g) n; next = later n g }
-
--- what draws have come to, by value
-abbrev pub value_total : RandomSums → Total
-value_total s = record { sum = s.sum; used = s.used; next = s.next }
 
 -- ---- what the export hands out
 

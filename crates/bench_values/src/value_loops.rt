@@ -2,9 +2,9 @@
 ghost use Rattle.std.specs.Prelude.{◌≡◌};
 ghost use Rattle.bench_lent.specs.Rows.{draws_row};
 ghost use Rattle.bench_values.specs.Promises.{BenchWordsByValuePromise, BenchDrawsByValuePromise};
-ghost use Rattle.bench_values.specs.Rows.{words_row, value_total};
+ghost use Rattle.bench_values.specs.Rows.{words_row};
 
-use bench_lent::Sums;
+use bench_lent::{Sums, Total};
 use lent_state::{held_in, write};
 use random::{Random, engine_of, with_table};
 use source::Drawn;
@@ -58,17 +58,9 @@ pub extern "C" fn bench_words_by_value(
     }
 }
 
-// What draws come to: the sums, and the generator after them.
-#[derive(Clone, Copy)]
-struct RandomSums {
-    sum: u64,
-    used: u64,
-    next: Random,
-}
-
 // n draws below r in a row. A refused draw adds nothing, and the next one begins where it did.
-fn draws_by_value(g: Random, r: u32, budget: u32, n: u64) -> RandomSums
-    ensures { value_total result ≡ draws_row r budget n g }
+fn draws_by_value(g: Random, r: u32, budget: u32, n: u64) -> Total<Random>
+    ensures { result ≡ draws_row r budget n g }
 {
     let mut next = g;
     let mut sum: u64 = 0;
@@ -80,7 +72,7 @@ fn draws_by_value(g: Random, r: u32, budget: u32, n: u64) -> RandomSums
         used = used.wrapping_add(o.used as u64);
         next = a.next;
     }
-    RandomSums { sum, used, next }
+    Total { next, sum, used }
 }
 
 // n draws below r in a row, each within the budget.
