@@ -7,7 +7,15 @@ use Rattle.mersenne_twister.specs.declared.MersenneTwister as twister_type
 use Rattle.mersenne_twister.specs.declared.table.Step.{Step}
 use Rattle.source.specs.declared.Drawn.{Drawn}
 use Rattle.ahead.specs.Ahead.{Holds}
-use Rattle.random.specs.declared.backend.Backend.TheVariants.{MersenneTwister}
+use Rattle.ahead.specs.AheadLaws.{xoshiro_holds, pcg32_holds, pcg64_holds}
+use Rattle.pcg.specs.Pcg32 as pcg32
+use Rattle.pcg.specs.Pcg64 as pcg64
+use Rattle.pcg.specs.declared.pcg32.Pcg32 as pcg32_type
+use Rattle.pcg.specs.declared.pcg64.Pcg64 as pcg64_type
+use Rattle.xoshiro.specs.Generator as xoshiro
+use Rattle.xoshiro.specs.declared.Xoshiro256PlusPlus as xoshiro_type
+use Rattle.random.specs.declared.backend.Backend.{Backend}
+use Rattle.random.specs.declared.backend.Backend.TheVariants.{Xoshiro256PlusPlus, MersenneTwister, Pcg32, Pcg64}
 use Rattle.random.specs.declared.backend.Random.{Random}
 use Rattle.random.specs.Generator.{gen, word_of, words_of, step}
 use Rattle.rehearsal.specs.Rehearsal.{draws_of, rehearsed_of}
@@ -43,3 +51,20 @@ twister_next_lem e = record {
   word = ap (λ (r : Drawn ℕ twister_type.MersenneTwister). r.word) e;
   moved = ap (λ (r : Drawn ℕ twister_type.MersenneTwister). gen MersenneTwister r.next) e;
 }
+
+-- So each kind's own call gives the generator's next word. The twister beside a kind that is not the twister may be any.
+abbrev pub NextOf : Backend → ℕ → Backend → Type 0
+NextOf kind w next = (t : twister_type.MersenneTwister) → NextWord (gen kind t) w (gen next t)
+
+-- the word of Xoshiro256++
+pub xoshiro_next : {x : xoshiro_type.Xoshiro256PlusPlus} {r : Drawn ℕ xoshiro_type.Xoshiro256PlusPlus} → r ≡ xoshiro.drawn_high x
+    → NextOf (Xoshiro256PlusPlus x) r.word (Xoshiro256PlusPlus r.next)
+xoshiro_next e t = source_next (xoshiro_holds t) e
+
+-- of Pcg32
+pub pcg32_next : {p : pcg32_type.Pcg32} {r : Drawn ℕ pcg32_type.Pcg32} → r ≡ pcg32.drawn p → NextOf (Pcg32 p) r.word (Pcg32 r.next)
+pcg32_next e t = source_next (pcg32_holds t) e
+
+-- of Pcg64, the high half of its own
+pub pcg64_next : {p : pcg64_type.Pcg64} {r : Drawn ℕ pcg64_type.Pcg64} → r ≡ pcg64.drawn_high p → NextOf (Pcg64 p) r.word (Pcg64 r.next)
+pcg64_next e t = source_next (pcg64_holds t) e

@@ -15,7 +15,7 @@ pub struct Rehearsed {
     pub settled: u32,
 }
 
-// The draws from a generator by value.
+// The draws from a generator by value. A `while`: the loop ends on what is settled, and the words are counted beside it.
 fn source_run<S: Source>(g: S, d: Draws) -> Rehearsed
     ensures { SourceTold S.drawn g d result }
 {

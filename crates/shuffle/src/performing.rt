@@ -55,7 +55,7 @@ fn swap_turn(d: Draws, t: Turn, mt: &mut [u32; 624], list: &mut [u32], block: &m
 }
 
 // The draws of a shuffle with their swaps, as far as the words of the budget go, and the engine after those words: the whole shuffle where
-// `outcome_in` is answered with this budget.
+// `outcome_in` is answered with this budget. A `while`: how many turns there are, the words decide.
 pub fn perform_in(e: Engine, mt: &mut [u32; 624], list: &mut [u32], budget: u32) -> Engine
     ensures { PerformInPromise e mt.old list.old budget result mt.new list.new }
 {

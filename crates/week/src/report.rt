@@ -1,4 +1,6 @@
 // What the program writes: the plan on standard output; warnings and what is wrong with its arguments on standard error.
+ghost use Rattle.std.specs.Prelude.{◌≤◌};
+
 use crate::job::{Job, MOST_SLOTS};
 use std::io;
 use std::io::Stderr;
@@ -27,7 +29,9 @@ pub(crate) fn tell_job(rt: &impl Print, job: Job) -> io::Result<()> {
     println!(rt; ", days {days}, budget a draw {budget} words")
 }
 
-fn digits_of(n: u32) -> usize {
+fn digits_of(n: u32) -> usize
+    ensures { result ≤ 10 }
+{
     n.checked_ilog10().map_or(1, |log| log as usize + 1)
 }
 
