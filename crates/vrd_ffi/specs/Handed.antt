@@ -8,6 +8,7 @@ use Rattle.words.specs.Draw.{Words}
 use Rattle.words.specs.Refusal as refusal
 use Rattle.random.specs.Generator.{words_of}
 use Rattle.random.specs.declared.backend.Random.{Random}
+use Rattle.random.specs.declared.engine.Engine.{Engine}
 use Rattle.source.specs.declared.Drawn.{Drawn}
 use Rattle.bounded.specs.Answers as answers
 use Rattle.bounded.specs.declared.answers.Answer.{Answer}

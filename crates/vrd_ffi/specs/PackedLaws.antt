@@ -17,6 +17,8 @@ use Rattle.words.specs.Refusal as refusal
 use Rattle.random.specs.Generator.{later, word_of, words_of, rand_of}
 use Rattle.random.specs.GeneratorLaws.{later_none, word_at}
 use Rattle.random.specs.Lent.{joined_with}
+use Rattle.random.specs.declared.backend.Random.{Random}
+use Rattle.random.specs.declared.engine.Engine.{Engine}
 use Rattle.bounded.specs.Answers as library
 use Rattle.words.specs.OutcomeLaws.{raised_answered, raised_refused}
 use Rattle.words.specs.Outcomes.{raised}

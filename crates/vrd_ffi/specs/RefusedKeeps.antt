@@ -12,6 +12,7 @@ use Rattle.random.specs.Generator.{later, words_of, word64_of}
 use Rattle.random.specs.GeneratorLaws.{later_none}
 use Rattle.random.specs.Lent.{table_in}
 use Rattle.random.specs.declared.backend.Random.{Random}
+use Rattle.random.specs.declared.engine.Engine.{Engine}
 use Rattle.floats.specs.Chances as chances
 use Rattle.floats.proofs.IntervalLaws.{refusal_of_uniform}
 use Rattle.floats.specs.Intervals.{refusal_of}
