@@ -39,8 +39,7 @@ pub fn raised(n: u32, o: Outcome) -> Outcome
     ensures { RaisedPromise n o result }
 {
     if o.refusal == refusal::ANSWERED {
-        let sum = (n as u64) + (o.value as u64);
-        return gives((sum % 0x1_0000_0000) as u32, o.used);
+        return gives(n.wrapping_add(o.value), o.used);
     }
     o
 }

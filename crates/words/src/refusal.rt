@@ -2,6 +2,7 @@
 // the numbers; specs/Refusal.antt names the same ones for contracts and proofs.
 ghost use Rattle.words.specs.Promises.{CheckNumberPromise, RefusalNumberPromise};
 
+use std::error::Error;
 use std::fmt;
 
 // Why a call says no.
@@ -69,6 +70,8 @@ impl fmt::Display for Refusal {
         })
     }
 }
+
+impl Error for Refusal {}
 
 // The call is answered.
 pub const ANSWERED: u32 = 0;

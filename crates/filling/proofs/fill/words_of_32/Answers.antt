@@ -9,13 +9,13 @@ loop-turn-init g c = filling_start _ _ _ _ _
 pub loop-turn-preserved : goal.loop-turn-preserved
 loop-turn-preserved g c =
     let on : 8 * (c.loop-turn.turn + 1) ≡ 8 * c.loop-turn.turn + 8 = omega arith in
-    rw (on, c.put4-in-loop-turn.ensures, c.put4.ensures, c.next_u32-second.ensures, c.next_u32-first.ensures)
+    rw (on, c.put-in-loop-turn.ensures, c.put.ensures, c.next_u32-second.ensures, c.next_u32-first.ensures)
     (filling_two c.loop-turn.invariant _ _ _ refl refl refl (omega arith) (omega arith))
 
 pub returns-then-n-i-ge4 : goal.returns-then-n-i-ge4
 returns-then-n-i-ge4 g c =
     let here : length c.args.dest.now / 8 * 8 ≡ 8 * c.loop-turn.turn = omega arith in
-    rw (c.put4-then-n-i-ge4.ensures, c.next_u32-last.ensures, here)
+    rw (c.put-then-n-i-ge4.ensures, c.next_u32-last.ensures, here)
     (filling_last c.loop-turn.invariant _ _ refl refl (omega arith) (omega arith))
 
 pub returns : goal.returns

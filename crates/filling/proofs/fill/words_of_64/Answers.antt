@@ -9,13 +9,13 @@ loop-turn-init g c = filling_start _ _ _ _ _
 pub loop-turn-preserved : goal.loop-turn-preserved
 loop-turn-preserved g c =
     let on : 16 * (c.loop-turn.turn + 1) ≡ 16 * c.loop-turn.turn + 16 = omega arith in
-    rw (on, c.put8-in-loop-turn.ensures, c.put8.ensures, c.next_u64-second.ensures, c.next_u64-first.ensures)
+    rw (on, c.put-in-loop-turn.ensures, c.put.ensures, c.next_u64-second.ensures, c.next_u64-first.ensures)
     (filling_two c.loop-turn.invariant _ _ _ refl refl refl (omega arith) (omega arith))
 
 pub returns-then-n-i-ge8 : goal.returns-then-n-i-ge8
 returns-then-n-i-ge8 g c =
     let here : length c.args.dest.now / 16 * 16 ≡ 16 * c.loop-turn.turn = omega arith in
-    rw (c.put8-then-n-i-ge8.ensures, c.next_u64-last.ensures, here)
+    rw (c.put-then-n-i-ge8.ensures, c.next_u64-last.ensures, here)
     (filling_last c.loop-turn.invariant _ _ refl refl (omega arith) (omega arith))
 
 pub returns : goal.returns

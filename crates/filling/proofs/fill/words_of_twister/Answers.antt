@@ -13,7 +13,7 @@ loop-turn-preserved c =
     let word = ap (λ (d : Drawn ℕ MersenneTwister). d.word) c.rand_in-d.ensures in
     let next = ap (λ (d : Drawn ℕ MersenneTwister). d.next) c.rand_in-d.ensures in
     let on : 4 * (c.loop-turn.turn + 1) ≡ 4 * c.loop-turn.turn + 4 = omega arith in
-    rw (on, c.put4.ensures) (filling_more c.loop-turn.invariant _ _ word next (omega arith) (omega arith))
+    rw (on, c.put.ensures) (filling_more c.loop-turn.invariant _ _ word next (omega arith) (omega arith))
 
 pub returns : goal.returns
 returns c = filling_end c.loop-turn.invariant (omega arith)
