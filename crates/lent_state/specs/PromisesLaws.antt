@@ -1,12 +1,15 @@
 -- Each promise leaves one possible answer, or one state.
-use Rattle.std.specs.Prelude.{ℕ, List, ◌≡◌}
-use Rattle.std.proofs.Common.{sym, ◌∙◌}
+use Rattle.std.specs.Prelude.{ℕ, List, Option, ◌≡◌}
+use Rattle.std.proofs.Common.{sym, ◌∙◌, ap, ap₂}
 use Rattle.pcg.specs.declared.pcg32.Pcg32.{Pcg32}
 use Rattle.pcg.specs.declared.pcg64.Pcg64.{Pcg64}
 use Rattle.xoshiro.specs.declared.Xoshiro256PlusPlus.{Xoshiro256PlusPlus}
 use Rattle.random.specs.declared.backend.Random.{Random}
 use Rattle.random.specs.declared.engine.Engine.{Engine}
-use Rattle.lent_state.specs.State.{Held}
+use Rattle.words.specs.NumbersLaws.{checks_apart}
+use Rattle.words.specs.declared.refusal.Refusal.{Refusal}
+use Rattle.lent_state.specs.State.{Held, held_numbers}
+use Rattle.lent_state.specs.declared.reading.Held as code
 use Rattle.lent_state.specs.Promises.{PositionPromise, XoshiroInPromise, Pcg32InPromise, Pcg64InPromise, HeldInPromise}
 use Rattle.lent_state.specs.Promises.{PutSmallPromise, PutPositionPromise, WritePromise, LentSettlePromise, LentBeginPromise}
 use Rattle.lent_state.specs.Promises.{LentPlacePromise}
@@ -27,6 +30,12 @@ module _ (s : List ℕ) where
 
   pub one_held_in : {a b : Held} → HeldInPromise s a → HeldInPromise s b → a ≡ b
   one_held_in p q = p ∙ sym q
+
+-- Two readings of the code that say the same in document 01's numbers are the same.
+pub held_same : (a b : code.Held) → held_numbers a ≡ held_numbers b → a ≡ b
+held_same a b h =
+    ap₂ (λ (r : Option Refusal) (e : Engine). record { refusal = r; engine = e })
+    (checks_apart a.refusal b.refusal (ap (λ (m : Held). m.refusal) h)) (ap (λ (m : Held). m.engine) h)
 
 module _ (s : List ℕ) {s₁ s₂ : List ℕ} where
   pub one_put_small : (a b c d : ℕ) → PutSmallPromise s a b c d s₁ → PutSmallPromise s a b c d s₂ → s₁ ≡ s₂

@@ -15,7 +15,10 @@ use Rattle.making.specs.Make.{Made}
 use Rattle.making.specs.Make.{of_xoshiro, of_twister, of_pcg32, of_pcg64, seed_length_of, of_kind}
 use Rattle.making.specs.Make.{refused_making, answered_making, made_bytes}
 
--- ---- the length of a kind's seed other than Pcg32's
+-- ---- the length of a kind's seed
+
+pub short_seed : (kind : ℕ) → kind ≡ 2 → seed_length_of kind ≡ 16
+short_seed kind e = rw e
 
 pub long_seed : (kind : ℕ) → (kind ≡ 2 → ⊥) → seed_length_of kind ≡ 32
 long_seed kind n = rw (ne_eqb kind 2 n)

@@ -1,6 +1,6 @@
 -- Each promise leaves one answer: two that both meet it are equal.
-use Rattle.std.specs.Prelude.{List, ◌≡◌, ℕ}
-use Rattle.std.proofs.Common.{sym, ◌∙◌}
+use Rattle.std.specs.Prelude.{List, Option, ◌≡◌, ℕ}
+use Rattle.std.proofs.Common.{sym, ◌∙◌, ap, ap₂}
 use Rattle.mersenne_twister.specs.declared.MersenneTwister.{MersenneTwister}
 use Rattle.pcg.specs.declared.pcg32.Pcg32.{Pcg32}
 use Rattle.pcg.specs.declared.pcg64.Pcg64.{Pcg64}
@@ -13,10 +13,19 @@ use Rattle.making.specs.Promises.{FromMersenneTwisterPromise, FromPcg32Promise, 
 use Rattle.making.specs.Promises.{FromXoshiroPromise, MakePromise, NewMersenneTwisterWithSeedPromise, NewPcg32WithSeedPromise}
 use Rattle.making.specs.Promises.{NewPcg32WithStreamPromise, NewPcg64WithSeedPromise, NewPcg64WithStreamPromise, MakingSeedInPromise}
 use Rattle.making.specs.Promises.{SeedPromise, ZerosPromise}
-use Rattle.making.specs.Make.{Made}
+use Rattle.making.specs.Make.{Made, making_of}
+use Rattle.making.specs.declared.bytes.Made as code
+use Rattle.words.specs.NumbersLaws.{checks_apart}
+use Rattle.words.specs.declared.refusal.Refusal.{Refusal}
 
 pub one_make : (kind : ℕ) (seed : List ℕ) {a b : Made} → MakePromise kind seed a → MakePromise kind seed b → a ≡ b
 one_make kind seed p q = p ∙ sym q
+
+-- Two makings of the code that say the same in document 01's numbers are the same.
+pub made_same : (a b : code.Made) → making_of a ≡ making_of b → a ≡ b
+made_same a b h =
+    ap₂ (λ (r : Option Refusal) (g : Random). record { refusal = r; generator = g })
+    (checks_apart a.refusal b.refusal (ap (λ (m : Made). m.refusal) h)) (ap (λ (m : Made). m.generator) h)
 
 pub one_from_xoshiro : (x : Xoshiro256PlusPlus) {a b : Random} → FromXoshiroPromise x a → FromXoshiroPromise x b → a ≡ b
 one_from_xoshiro x p q = p ∙ sym q

@@ -1,6 +1,6 @@
 -- Each promise leaves one answer: two that both meet it are equal.
-use Rattle.std.specs.Prelude.{Bool, List, ◌≡◌, ℕ}
-use Rattle.std.proofs.Common.{sym, ◌∙◌}
+use Rattle.std.specs.Prelude.{Bool, List, Option, ◌≡◌, ℕ}
+use Rattle.std.proofs.Common.{sym, ◌∙◌, ap, ap₂}
 use Rattle.random.specs.LentLaws.{joined_apart}
 use Rattle.random.specs.declared.backend.Backend.{Backend}
 use Rattle.random.specs.declared.backend.Random.{Random}
@@ -9,7 +9,10 @@ use Rattle.parts.specs.Decides.{decides_once}
 use Rattle.parts.specs.Promises.{KindPromise, MtiInPromise, MtiPromise, SameInPromise, SamePromise, SameWordsPromise, SetMtiInPromise}
 use Rattle.parts.specs.Promises.{SetMtiPromise, SmallWordsPromise, SplitInPromise, SplitPromise, PartsTwistInPromise, TwistPromise}
 use Rattle.parts.specs.declared.read_out.Small.{Small}
-use Rattle.parts.specs.Splitting.{Divided}
+use Rattle.parts.specs.Splitting.{Divided, split_in_numbers}
+use Rattle.parts.specs.declared.splitting.Divided as code
+use Rattle.words.specs.NumbersLaws.{checks_apart}
+use Rattle.words.specs.declared.refusal.Refusal.{Refusal}
 
 pub one_same_words : (a b : List ℕ) {r r' : Bool} → SameWordsPromise a b r → SameWordsPromise a b r' → r ≡ r'
 one_same_words a b p q = decides_once _ _ _ p q
@@ -51,3 +54,10 @@ one_split_in e p q = p ∙ sym q
 
 pub one_split : (g : Random) {a b : Divided Random} → SplitPromise g a → SplitPromise g b → a ≡ b
 one_split g p q = p ∙ sym q
+
+-- Two splits of the code that say the same in document 01's numbers are the same.
+pub split_same : {G : Type 0} (a b : code.Divided G) → split_in_numbers a ≡ split_in_numbers b → a ≡ b
+split_same {G} a b h =
+    let refusals = checks_apart a.refusal b.refusal (ap (λ (d : Divided G). d.refusal) h) in
+    ap₂ (λ (r : Option Refusal) (g : G × G). record { refusal = r; parent = g.0; child = g.1 }) refusals
+    (ap (λ (d : Divided G). (d.parent, d.child)) h)

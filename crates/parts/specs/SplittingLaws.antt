@@ -8,8 +8,20 @@ use Rattle.random.specs.declared.engine.Engine.{Engine}
 use Rattle.parts.specs.Splitting.{Divided}
 use Rattle.parts.specs.Kind.{kind_of}
 use Rattle.making.specs.Make.{zero_generator}
-use Rattle.parts.specs.Splitting.{engine_split_by, engine_split, split_by, split_of}
+use Rattle.parts.specs.Splitting.{engine_split_by, engine_split, refused_split, split_by, split_of}
 use Rattle.random.specs.Lent.{engine_in, joined_with}
+
+-- ---- refused on every other kind
+
+refused_by : (b : Backend) (e : Engine) → (kind_of b ≡ 0 → ⊥) → refused_split e ≡ engine_split_by b e
+refused_by (Xoshiro256PlusPlus x) e h = absurd (h refl)
+refused_by MersenneTwister e h = refl
+refused_by (Pcg32 p) e h = refl
+refused_by (Pcg64 p) e h = refl
+
+pub split_refused : (e : Engine) (b : Backend) → e.backend ≡ b → (kind_of b ≡ 0 → ⊥) → refused_split e ≡ engine_split e
+unfolding engine_split
+split_refused e b p h = refused_by b e h ∙ ap (λ (x : Backend). engine_split_by x e) (sym p)
 
 -- ---- the call by value, by the lent one
 

@@ -9,7 +9,7 @@ use Rattle.random.specs.GeneratorLaws.{later_add, words_after}
 use Rattle.ahead.specs.Ahead.{first_words}
 use Rattle.ahead.specs.AheadLaws.{words_length, word_there}
 use Rattle.rehearsal.specs.Values.{values_after, settled_after, bound_left}
-use Rattle.rehearsal.specs.ValuesLaws.{values_more, values_same}
+use Rattle.rehearsal.specs.ValuesLaws.{settled_few, values_more, values_none, values_same}
 use Rattle.rehearsal.specs.Turns.{SettledWords, words_taken, values_taken}
 use Rattle.rehearsal.specs.Rehearsing.{rehearsing_on, rehearsing_within}
 use Rattle.rehearsal.specs.Standing.{Standing}
@@ -35,6 +35,15 @@ words_settled {g} {n = n} r falls w m p =
     let same = values_listed (words_of g) r falls n in
     let put = rw w at p in
     record { moved = m; counted = rw same at put.0; holds = rw same at put.1 }
+
+-- no more draws than words
+pub settled_few_words : {g h : Random} {r : ℕ} {falls : Bool} {n count : ℕ} {l : List ℕ} → SettledWords g r falls n h count l → count ≤ n
+settled_few_words {g} {r = r} {falls} {n} p =
+    let few = settled_few (words_of g) r falls 0 n in
+    let none = ap length (values_none (words_of g) r falls) in
+    let z : 0 + n ≡ n = omega arith in
+    let some = rw z at few in
+    omega (arith, p.counted, some, none)
 
 -- ---- where draws stand, turn after turn
 

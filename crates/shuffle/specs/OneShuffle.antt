@@ -113,7 +113,7 @@ module _ (s : Words) (l : List ℕ) (budget : ℕ) where
 
 -- ---- the code's answers: two that say the same in document 01's numbers are the same
 
-done_apart : (a b : Result (Given (Unit {0})) Refusal) → done a ≡ done b → a ≡ b
+pub done_apart : (a b : Result (Given (Unit {0})) Refusal) → done a ≡ done b → a ≡ b
 done_apart (Ok g) (Ok h) e = ap (λ (o : Outcome). Ok (record { value = tt; used = o.used })) e
 done_apart (Err r) (Err q) e = ap Err (one_number (ap (λ (o : Outcome). o.refusal) e))
 done_apart (Ok g) (Err q) e = absurd (let some = number_positive q in omega (arith, some, ap (λ (o : Outcome). o.refusal) e))

@@ -1,12 +1,12 @@
 -- Two answers that say the same in document 01's numbers are the same.
-use Rattle.std.specs.Prelude.{◌≡◌, refl, false, ℕ, ◌<◌, Result, Ok, Err, cond, eqb}
+use Rattle.std.specs.Prelude.{◌≡◌, refl, false, ℕ, ◌<◌, Option, Some, None, Result, Ok, Err, cond, eqb}
 use Rattle.std.proofs.Common.{sym, ◌∙◌, ap, arith, ne_eqb}
 use Rattle.words.specs.declared.outcome.Outcome.{Outcome}
 use Rattle.words.specs.declared.refusal.Refusal.{Refusal}
 use Rattle.words.specs.declared.refusal.Refusal.TheVariants as no
 use Rattle.words.specs.declared.reply.Given.{Given}
 use Rattle.words.specs.Refusal as number
-use Rattle.words.specs.Numbers.{number_of, numbered}
+use Rattle.words.specs.Numbers.{number_of, refusal_in, numbered}
 
 -- the refusal of a number (of one that is none, the last)
 abbrev pub refusal_of : ℕ → Refusal
@@ -56,6 +56,13 @@ number_positive no.SeedLength = omega arith
 -- as a test has it
 pub not_answered : (r : Refusal) → eqb (number_of r) number.answered ≡ false
 not_answered r = ne_eqb (number_of r) number.answered (λ z. let some = number_positive r in omega arith)
+
+-- What two checks come to is the same where its numbers are.
+pub checks_apart : (a b : Option Refusal) → refusal_in a ≡ refusal_in b → a ≡ b
+checks_apart None None e = refl
+checks_apart (Some r) (Some q) e = ap Some (one_number e)
+checks_apart None (Some q) e = absurd (omega (arith, number_positive q, e))
+checks_apart (Some r) None e = absurd (omega (arith, number_positive r, e))
 
 -- What two calls tell is the same where its numbers are.
 pub numbers_apart : (a b : Result (Given ℕ) Refusal) → numbered a ≡ numbered b → a ≡ b
