@@ -13,7 +13,7 @@ const SIGN: u64 = 0x8000_0000_0000_0000;
 pub fn pattern_of(x: f64) -> u64
     ensures { PatternOfPromise x result }
 {
-    if x != x {
+    if x.is_nan() {
         return 0;
     }
     f64::to_bits(x)

@@ -1,6 +1,5 @@
 // A number of an interval: low + (high - low) * double, each operation rounded once.
 ghost use Rattle.std.specs.Prelude.{◌≡◌};
-ghost use Rattle.std.specs.Float.Ieee.Scale.{finite};
 ghost use Rattle.floats.specs.Intervals.{number_in};
 ghost use Rattle.words.specs.Numbers.{refusal_in};
 ghost use Rattle.floats.specs.Promises.{EndsAreFinitePromise, IsOutOfOrderPromise, IntervalRefusalPromise, UniformOfPromise};
@@ -23,23 +22,11 @@ pub enum Uniform {
     Refused(u32),
 }
 
-// Neither a NaN nor an infinity.
-fn is_finite(x: f64) -> bool
-    ensures { result ≡ finite x }
-{
-    let infinity = 1.0 / 0.0;
-    if x < infinity { -infinity < x } else { false }
-}
-
-// Whether both ends are.
+// Whether neither end is a NaN or an infinity.
 pub fn ends_are_finite(i: Interval) -> bool
     ensures { EndsAreFinitePromise i result }
 {
-    if is_finite(i.low) {
-        is_finite(i.high)
-    } else {
-        false
-    }
+    i.low.is_finite() && i.high.is_finite()
 }
 
 // -0.0 and 0.0 are level, so an interval between them is out of order.
@@ -59,7 +46,7 @@ pub fn interval_refusal(i: Interval) -> Option<Refusal>
     if is_out_of_order(i) {
         return Some(Refusal::Order);
     }
-    if is_finite(i.high - i.low) {
+    if (i.high - i.low).is_finite() {
         None
     } else {
         Some(Refusal::NotFinite)

@@ -27,9 +27,9 @@ pub fn seed_in(mt: &mut [u32; 624], seed: u32) -> u32
     ensures { SeedInPromise mt.old seed result mt.new }
 {
     let mut word = seed;
-    for i in 0..END {
-        mt[i as usize] = word;
-        word = seed_step(word, i + 1);
+    for (i, entry) in mt.iter_mut().enumerate() {
+        *entry = word;
+        word = seed_step(word, i as u32 + 1);
     }
     END
 }

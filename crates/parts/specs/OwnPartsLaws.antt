@@ -1,10 +1,11 @@
 -- The laws of own parts: the kind and the small words fix the backend, and what two generators must share to be equal.
-use Rattle.std.specs.Prelude.{List, ◌≡◌, refl, ℕ}
-use Rattle.std.proofs.Common.{sym, ◌∙◌, arith}
+use Rattle.std.specs.Prelude.{List, true, false, ◌≡◌, refl, ℕ}
+use Rattle.std.proofs.Common.{sym, ◌∙◌, true≢false, arith}
 use Rattle.std.proofs.Math.Path.{ap}
 use Rattle.random.specs.declared.backend.Random.{Random}
 use Rattle.random.specs.declared.backend.Backend.{Backend}
 use Rattle.random.specs.declared.backend.Backend.TheVariants.{Xoshiro256PlusPlus, MersenneTwister, Pcg32, Pcg64}
+use Rattle.random.specs.TableKept.{on_table}
 use Rattle.parts.specs.Kind.{kind_of, small_words}
 use Rattle.parts.specs.OwnParts.{table_part, Own, own_parts}
 use Rattle.parts.specs.Position.{position_of}
@@ -30,18 +31,25 @@ backend_is (Pcg64 p) (Pcg32 q) k e = absurd (omega arith)
 backend_is (Pcg64 p) (Pcg64 q) k e =
     λ i. Pcg64 (record { state = record { high = (e i).w0; low = (e i).w1 }; inc = record { high = (e i).w2; low = (e i).w3 } })
 
--- a kind other than the twister has no table of its own, and the twister's is the whole
+-- a kind other than the twister has no table of its own
 pub table_by : (b : Backend) (t u : List ℕ) → (kind_of b ≡ 1 → ⊥) → table_part b t ≡ table_part b u
 table_by (Xoshiro256PlusPlus x) t u h = refl
 table_by MersenneTwister t u h = absurd (h refl)
 table_by (Pcg32 p) t u h = refl
 table_by (Pcg64 p) t u h = refl
 
-pub twister_by : (b : Backend) (t : List ℕ) → kind_of b ≡ 1 → table_part b t ≡ t
-twister_by (Xoshiro256PlusPlus x) t h = absurd (omega arith)
-twister_by MersenneTwister t h = refl
-twister_by (Pcg32 p) t h = absurd (omega arith)
-twister_by (Pcg64 p) t h = absurd (omega arith)
+-- the same by whether the kind draws from the table; one that does has the whole
+pub table_off : (b : Backend) (t u : List ℕ) → on_table b ≡ false → table_part b t ≡ table_part b u
+table_off (Xoshiro256PlusPlus x) t u h = refl
+table_off MersenneTwister t u h = absurd (true≢false h)
+table_off (Pcg32 p) t u h = refl
+table_off (Pcg64 p) t u h = refl
+
+pub table_on : (b : Backend) (t : List ℕ) → on_table b ≡ true → table_part b t ≡ t
+table_on (Xoshiro256PlusPlus x) t h = absurd (true≢false (sym h))
+table_on MersenneTwister t h = refl
+table_on (Pcg32 p) t h = absurd (true≢false (sym h))
+table_on (Pcg64 p) t h = absurd (true≢false (sym h))
 
 module _ (g h : Random) where
   -- the position where it is the kind's own

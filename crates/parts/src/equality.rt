@@ -5,7 +5,6 @@ ghost use Rattle.parts.specs.OwnParts.{table_part};
 ghost use Rattle.parts.specs.Promises.{SameWordsPromise, SameInPromise, SamePromise};
 
 use crate::position::mti_in;
-use crate::read_out::kind;
 use random::{Backend, Engine, Random, engine_of};
 
 // Whether two lists hold the same words.
@@ -16,11 +15,11 @@ pub fn same_words(a: &[u32], b: &[u32]) -> bool
 }
 
 // Whether two tables are the same to a backend: the twister's are compared, and no other kind has one.
-#[tactic(auto, using(crate::specs::OwnPartsLaws::table_by, crate::specs::Decides::decides_yes))]
+#[tactic(auto, using(crate::specs::OwnPartsLaws::table_off, crate::specs::Decides::decides_yes))]
 fn same_tables(backend: Backend, mt: &[u32; 624], other: &[u32; 624]) -> bool
     ensures { Decides result (table_part backend mt.now ≡ table_part backend other.now) }
 {
-    if kind(backend) != 1 {
+    if !random::on_table(backend) {
         return true;
     }
     same_words(mt, other)

@@ -1,11 +1,10 @@
--- How the code works out the span of two signed numbers of 32 bits: their difference in 64 bits overflows nothing, and where it is not
--- below zero it is the gap.
-use Rattle.std.specs.Prelude.{◌≡◌, refl, Bool, true, false, ℕ, zero, suc, ◌+◌, ◌≤◌, ltb, ℤ, pos, negsuc, ◌-ℤ◌}
-use Rattle.std.proofs.Math.Path.{sym}
-use Rattle.std.proofs.Common.{◌∙◌, true≢false, arith, ltb-true, SFits, of_z, to_z}
+-- How the code works out the span of two signed numbers of 32 bits: their difference in 64 bits overflows nothing, and it, or 0
+-- where it is below zero, is the gap.
+use Rattle.std.specs.Prelude.{◌≡◌, refl, Bool, true, false, ℕ, zero, suc, ◌+◌, ◌≤◌, ltb, ℤ, pos, negsuc, ◌-ℤ◌, nat_abs}
+use Rattle.std.proofs.Common.{◌∙◌, arith, lt-ltb, SFits, of_z, to_z}
 use Rattle.std.proofs.Math.IntN.{sub_ℕ}
-use Rattle.std.specs.Int.Signed.{mag, lt_z}
-use Rattle.std.specs.Int.{w32, w64}
+use Rattle.std.specs.Int.Signed.{mag}
+use Rattle.std.specs.Int.{int_max, w32, w64}
 use Rattle.std.proofs.lemmas.Int.{to_z-of_z}
 use Rattle.signed.specs.Signed.{or_zero, gap}
 use Rattle.signed.specs.Widening.{wide, widened}
@@ -27,15 +26,12 @@ difference_small (negsuc a) (pos zero) = omega (arith, difference_of_naturals 0 
 difference_small (negsuc a) (pos (suc b)) = omega arith
 difference_small (negsuc a) (negsuc b) = omega (arith, difference_of_naturals (suc b) (suc a))
 
--- ---- the two sides of zero
+-- ---- a number, or 0 for one below zero
 
-below_zero : (z : ℤ) → lt_z z (pos 0) ≡ true → or_zero z ≡ 0
-below_zero (pos n) h = let k = ltb-true n 0 h in omega arith
-below_zero (negsuc n) h = refl
-
-from_zero : (z : ℤ) → lt_z z (pos 0) ≡ false → z ≡ pos (or_zero z)
-from_zero (pos n) h = refl
-from_zero (negsuc n) h = absurd (true≢false h)
+from_zero : (z : ℤ) → nat_abs (int_max z (pos 0)) ≡ or_zero z
+from_zero (pos zero) = refl
+from_zero (pos (suc n)) = rw (lt-ltb 0 (suc n) (omega arith)) refl
+from_zero (negsuc n) = refl
 
 -- ---- the code's difference
 
@@ -57,12 +53,7 @@ module _ {min max : ℤ} (f : SFits w32 min) (g : SFits w32 max) where
   span_plain : span ≡ max -ℤ min
   span_plain = to_z-of_z w64 _ span_fits ∙ span_sum
 
-  -- below zero the gap is nothing
-  pub span_below : lt_z span (pos 0) ≡ true → 0 ≡ gap min max
+  -- and it, or 0, is the gap
+  pub span_gap : nat_abs (int_max span (pos 0)) ≡ gap min max
   unfolding gap
-  span_below h = sym (below_zero (max -ℤ min) (rw span_plain at h))
-
-  -- and from zero on it is the gap
-  pub span_above : lt_z span (pos 0) ≡ false → span ≡ pos (gap min max)
-  unfolding gap
-  span_above h = span_plain ∙ from_zero (max -ℤ min) (rw span_plain at h)
+  span_gap = rw span_plain (from_zero (max -ℤ min))
