@@ -1,7 +1,8 @@
 // What the document says: each example with the words that it gives, and its answer.
-use crate::report::{Drawn, Refused, Said};
+use crate::report::Said;
+use words::{Given, Refusal};
 
-const OUT_OF_BUDGET: Said = Err(Refused(words::refusal::BUDGET));
+const OUT_OF_BUDGET: Said = Err(Refusal::Budget);
 
 // Draws below a bound: with these words and no more, and so with a budget of as many.
 #[derive(Clone, Copy)]
@@ -21,27 +22,27 @@ pub(crate) const BELOW: [Below; 13] = [
     Below {
         r: 3,
         words: &[0, 1],
-        says: Ok(Drawn { value: 0, used: 2 }),
+        says: Ok(Given { value: 0, used: 2 }),
     },
     Below {
         r: 3,
         words: &[1],
-        says: Ok(Drawn { value: 0, used: 1 }),
+        says: Ok(Given { value: 0, used: 1 }),
     },
     Below {
         r: 3,
         words: &[0x5555_5555],
-        says: Ok(Drawn { value: 0, used: 1 }),
+        says: Ok(Given { value: 0, used: 1 }),
     },
     Below {
         r: 3,
         words: &[0x5555_5556],
-        says: Ok(Drawn { value: 1, used: 1 }),
+        says: Ok(Given { value: 1, used: 1 }),
     },
     Below {
         r: 3,
         words: &[0xFFFF_FFFF],
-        says: Ok(Drawn { value: 2, used: 1 }),
+        says: Ok(Given { value: 2, used: 1 }),
     },
     // below 6: 0x2AAAAAAB is rejected
     Below {
@@ -53,7 +54,7 @@ pub(crate) const BELOW: [Below; 13] = [
     Below {
         r: 1,
         words: &[0],
-        says: Ok(Drawn { value: 0, used: 1 }),
+        says: Ok(Given { value: 0, used: 1 }),
     },
     Below {
         r: 1,
@@ -69,12 +70,12 @@ pub(crate) const BELOW: [Below; 13] = [
     Below {
         r: 0xFFFF_FFFF,
         words: &[1],
-        says: Ok(Drawn { value: 0, used: 1 }),
+        says: Ok(Given { value: 0, used: 1 }),
     },
     Below {
         r: 0xFFFF_FFFF,
         words: &[0xFFFF_FFFF],
-        says: Ok(Drawn {
+        says: Ok(Given {
             value: 4294967294,
             used: 1,
         }),
@@ -83,7 +84,7 @@ pub(crate) const BELOW: [Below; 13] = [
     Below {
         r: 0x8000_0000,
         words: &[0x8000_0000],
-        says: Ok(Drawn {
+        says: Ok(Given {
             value: 1073741824,
             used: 1,
         }),
@@ -105,7 +106,7 @@ pub(crate) const INT: [Int; 5] = [
         min: i32::MIN,
         max: i32::MAX,
         words: &[0],
-        says: Ok(Drawn {
+        says: Ok(Given {
             value: -2147483648,
             used: 1,
         }),
@@ -114,13 +115,13 @@ pub(crate) const INT: [Int; 5] = [
         min: i32::MIN,
         max: i32::MAX,
         words: &[0x8000_0000],
-        says: Ok(Drawn { value: 0, used: 1 }),
+        says: Ok(Given { value: 0, used: 1 }),
     },
     Int {
         min: i32::MIN,
         max: i32::MAX,
         words: &[0xFFFF_FFFF],
-        says: Ok(Drawn {
+        says: Ok(Given {
             value: 2147483647,
             used: 1,
         }),
@@ -130,13 +131,13 @@ pub(crate) const INT: [Int; 5] = [
         min: -1,
         max: 1,
         words: &[0xFFFF_FFFF],
-        says: Ok(Drawn { value: 1, used: 1 }),
+        says: Ok(Given { value: 1, used: 1 }),
     },
     Int {
         min: 5,
         max: 5,
         words: &[],
-        says: Ok(Drawn { value: 5, used: 0 }),
+        says: Ok(Given { value: 5, used: 0 }),
     },
 ];
 
@@ -153,7 +154,7 @@ pub(crate) const SHUFFLE: [Shuffled; 2] = [
     Shuffled {
         budget: 3,
         list: [30, 20, 10],
-        says: Ok(Drawn { value: 0, used: 3 }),
+        says: Ok(Given { value: 0, used: 3 }),
     },
     Shuffled {
         budget: 2,
@@ -163,12 +164,12 @@ pub(crate) const SHUFFLE: [Shuffled; 2] = [
 ];
 
 // Lists of 65,536 and 65,537 entries, each its own place: what the word 0xFFFFFFFF draws.
-pub(crate) const LONGEST: Said = Ok(Drawn {
+pub(crate) const LONGEST: Said = Ok(Given {
     value: 65535,
     used: 1,
 });
 
-pub(crate) const LONGER: Said = Err(Refused(words::refusal::TOO_LONG));
+pub(crate) const LONGER: Said = Err(Refusal::TooLong);
 
 // `float` of a 32-bit word or `double` of a 64-bit word. An answer is told as an `f64`'s bit pattern.
 #[derive(Clone, Copy)]
@@ -215,17 +216,17 @@ pub(crate) const CHANCE: [Chance; 3] = [
     Chance {
         p: 0,
         word: 0,
-        says: Ok(Drawn { value: 0, used: 1 }),
+        says: Ok(Given { value: 0, used: 1 }),
     },
     Chance {
         p: ONE,
         word: u64::MAX,
-        says: Ok(Drawn { value: 1, used: 1 }),
+        says: Ok(Given { value: 1, used: 1 }),
     },
     Chance {
         p: ABOVE_ONE,
         word: 0,
-        says: Err(Refused(words::refusal::CHANCE)),
+        says: Err(Refusal::Chance),
     },
 ];
 

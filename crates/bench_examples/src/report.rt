@@ -25,36 +25,18 @@ impl fmt::Display for Tally {
     }
 }
 
-// What is drawn, and the words used.
-#[derive(Clone, Copy, PartialEq, Eq, Default)]
-pub(crate) struct Drawn {
-    pub(crate) value: i64,
-    pub(crate) used: u32,
-}
-
-// A refusal, by its number.
-#[derive(Clone, Copy, PartialEq, Eq)]
-pub(crate) struct Refused(pub(crate) u32);
-
-pub(crate) type Said = Result<Drawn, Refused>;
-
-impl From<Refusal> for Refused {
-    fn from(refusal: Refusal) -> Refused {
-        Refused(refusal.number())
-    }
-}
+// What a call told, whatever it draws.
+pub(crate) type Said = Result<Given<i64>, Refusal>;
 
 // What a call told, its value read as `read` reads it.
 fn said<T, F: FnOnce(T) -> i64>(told: Result<Given<T>, Refusal>, read: F) -> Said
     requires { F.IsAlwaysCallable read }
 {
-    match told {
-        Ok(given) => Ok(Drawn {
-            value: read(given.value),
-            used: given.used,
-        }),
-        Err(refusal) => Err(Refused::from(refusal)),
-    }
+    let given = told?;
+    Ok(Given {
+        value: read(given.value),
+        used: given.used,
+    })
 }
 
 pub(crate) fn of_answer(a: Reply<u32, Engine>) -> Said {
@@ -85,7 +67,7 @@ pub(crate) fn of_shuffle(a: Reply<(), Engine>) -> Said {
 pub(crate) fn tell(rt: &impl Print, said: Said) -> io::Result<()> {
     let (drawn, refusal) = match said {
         Ok(drawn) => (drawn, words::refusal::ANSWERED),
-        Err(Refused(number)) => (Drawn::default(), number),
+        Err(refusal) => (Given { value: 0, used: 0 }, refusal.number()),
     };
     print!(rt;
         ": value {}, refusal {refusal}, words used {}",

@@ -43,6 +43,7 @@ pub(crate) enum Tried {
 }
 
 // The call of a name. A heading has 16 letters for it, and the first eight tell the names apart.
+// Not a `TryFrom`: its error type and the `ok()` at its one call would make it longer; `FromStr` wants a `str`, and the table is bytes.
 pub(crate) fn named(name: &[u8]) -> Option<Tried> {
     let call = match name {
         b"bounded " => Call::Bounded,

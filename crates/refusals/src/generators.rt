@@ -1,17 +1,9 @@
 // The generators that every call is tried on: each kind in four states set by hand. What a kind does not use holds sentinels.
 use mersenne_twister::MersenneTwister;
 use pcg::{Pcg32, Pcg64};
-use random::{Backend, Random};
+use random::{Backend, Kind, Random};
 use wrapping::Wide;
 use xoshiro::Xoshiro256PlusPlus;
-
-#[derive(Clone, Copy)]
-pub(crate) enum Kind {
-    Xoshiro256PlusPlus,
-    MersenneTwister,
-    Pcg32,
-    Pcg64,
-}
 
 pub(crate) const KINDS: [Kind; 4] = [
     Kind::Xoshiro256PlusPlus,

@@ -5,7 +5,7 @@ use crate::told::{only, same_told};
 use crate::{generators, report, told};
 use mersenne_twister::MersenneTwister;
 use pcg::{Pcg32, Pcg64};
-use random::{Backend, Random};
+use random::{Backend, Kind, Random};
 use std::io;
 use xoshiro::Xoshiro256PlusPlus;
 
@@ -30,16 +30,23 @@ fn seed<const N: usize>(number: u64) -> [u8; N] {
     bytes
 }
 
+// The kind of a row's number; what is above 3 stands for the last.
+fn kind_of(number: u64) -> Kind {
+    u32::try_from(number).map_or(Kind::Pcg64, |n| Kind::try_from(n).unwrap_or(Kind::Pcg64))
+}
+
 // The kind's own call over an array of the exact length; the twister stands beside its backend.
-fn own_call(kind: u64, number: u64) -> Random {
+fn own_call(kind: Kind, number: u64) -> Random {
     let backend = match kind {
-        0 => Backend::Xoshiro256PlusPlus(Xoshiro256PlusPlus::from_seed(seed(number))),
-        1 => Backend::MersenneTwister,
-        2 => Backend::Pcg32(Pcg32::from_seed(seed(number))),
-        _ => Backend::Pcg64(Pcg64::from_seed(seed(number))),
+        Kind::Xoshiro256PlusPlus => {
+            Backend::Xoshiro256PlusPlus(Xoshiro256PlusPlus::from_seed(seed(number)))
+        }
+        Kind::MersenneTwister => Backend::MersenneTwister,
+        Kind::Pcg32 => Backend::Pcg32(Pcg32::from_seed(seed(number))),
+        Kind::Pcg64 => Backend::Pcg64(Pcg64::from_seed(seed(number))),
     };
     let mut made = generators::beside_zeros(backend);
-    if kind == 1 {
+    if kind == Kind::MersenneTwister {
         made.twister = MersenneTwister::from_seed(seed(number));
     }
     made
@@ -50,7 +57,7 @@ fn is_as_ordered(row: Row, seed: &[u8]) -> bool {
     let made = told::made(making::make(row.first.word(), seed));
     let answered = row.length != 0 && seed.len() == row.length;
     let right = if answered {
-        only(None, own_call(row.first.0, row.second.0))
+        only(None, own_call(kind_of(row.first.0), row.second.0))
     } else {
         only(row.refused, generators::zeros())
     };

@@ -60,6 +60,14 @@ const CALLS: [Call; 26] = [
     Call::Draws,
 ];
 
-pub(crate) fn numbered(number: u32) -> Option<Call> {
-    CALLS.get(number as usize).copied()
+// A number that names no call.
+#[derive(Clone, Copy)]
+pub(crate) struct UnknownCall;
+
+impl TryFrom<u32> for Call {
+    type Error = UnknownCall;
+
+    fn try_from(number: u32) -> Result<Call, UnknownCall> {
+        CALLS.get(number as usize).copied().ok_or(UnknownCall)
+    }
 }

@@ -1,7 +1,8 @@
 // Rows compared: a row's call is made, and the eight words of its answer are held to those recorded.
+use crate::calls::Call;
 use crate::outcome::Outcome;
 use crate::sample::{ANSWER_WORDS, Row};
-use crate::{calls, perform, start};
+use crate::{perform, start};
 use std::ops::AddAssign;
 use std::{fmt, io};
 
@@ -71,7 +72,8 @@ pub(crate) struct Compared {
 
 fn answer(row: &Row) -> [u32; ANSWER_WORDS] {
     let g = start::generator(row);
-    calls::numbered(row.call)
+    Call::try_from(row.call)
+        .ok()
         .and_then(|call| perform::perform(call, g, row.arguments))
         .unwrap_or(Outcome::unknown(g))
         .words()
@@ -79,16 +81,17 @@ fn answer(row: &Row) -> [u32; ANSWER_WORDS] {
 
 fn first_difference(at: usize, row: &Row) -> Option<Difference> {
     let answered = answer(row);
-    for (word, (recorded, here)) in row.answer.iter().zip(answered.iter()).enumerate() {
-        if recorded != here {
-            return Some(Difference {
-                place: Place { row: at, word },
-                recorded: *recorded,
-                here: *here,
-            });
-        }
-    }
-    None
+    let (word, (recorded, here)) = row
+        .answer
+        .iter()
+        .zip(answered.iter())
+        .enumerate()
+        .find(|(_, (recorded, here))| recorded != here)?;
+    Some(Difference {
+        place: Place { row: at, word },
+        recorded: *recorded,
+        here: *here,
+    })
 }
 
 // The rows of a file, told by its name and whether it is damaged.

@@ -9,6 +9,33 @@ use random::{Kind, Random};
 use wrapping::Wide;
 use xoshiro::Xoshiro256PlusPlus;
 
+// What a generator is made of, numbered as rust/record numbers it.
+#[derive(Clone, Copy)]
+enum Maker {
+    Seed,
+    Stream,
+    Bytes,
+    Parts,
+}
+
+// A number that names no maker.
+#[derive(Clone, Copy)]
+struct UnknownMaker;
+
+impl TryFrom<u32> for Maker {
+    type Error = UnknownMaker;
+
+    fn try_from(number: u32) -> Result<Maker, UnknownMaker> {
+        match number {
+            0 => Ok(Maker::Seed),
+            1 => Ok(Maker::Stream),
+            2 => Ok(Maker::Bytes),
+            3 => Ok(Maker::Parts),
+            _ => Err(UnknownMaker),
+        }
+    }
+}
+
 // The kind of a row's number; what is above 3 stands for the last.
 fn kind_of(number: u32) -> Kind {
     Kind::try_from(number).unwrap_or(Kind::Pcg64)
@@ -86,14 +113,14 @@ fn of_bytes(row: &Row) -> Random {
     making::make(row.kind, &seed[..length]).generator
 }
 
-// What a row's maker number says.
+// What a row's maker number says; what is above 3 stands for the last.
 fn made(row: &Row) -> Random {
     let kind = kind_of(row.kind);
-    match row.maker {
-        0 => of_seed(kind, row.numbers[0], row.numbers[1]),
-        1 => of_stream(kind, row.numbers),
-        2 => of_bytes(row),
-        _ => of_parts(kind, row.numbers),
+    match Maker::try_from(row.maker).unwrap_or(Maker::Parts) {
+        Maker::Seed => of_seed(kind, row.numbers[0], row.numbers[1]),
+        Maker::Stream => of_stream(kind, row.numbers),
+        Maker::Bytes => of_bytes(row),
+        Maker::Parts => of_parts(kind, row.numbers),
     }
 }
 

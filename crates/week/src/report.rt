@@ -80,7 +80,7 @@ pub(crate) fn tell_refusal(
     print!(rt; " refused with {number}")?;
     if refusal == Refusal::Budget {
         let budget = job.budget;
-        print!(rt; " (BUDGET): the draws don't finish within the budget of {budget} words")?;
+        print!(rt; " ({refusal}): the draws don't finish within the budget of {budget} words")?;
     }
     println!(rt)
 }
