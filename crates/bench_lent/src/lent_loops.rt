@@ -7,7 +7,7 @@ ghost use Rattle.bench_lent.specs.Rows.{draws_row, lent_total};
 
 use lent_state::{held_in, write};
 use random::Engine;
-use words::refusal;
+use words::{Given, refusal};
 
 // The sums of values and of words used, modulo 2^64. Refused, they are 0.
 #[repr(C)]
@@ -35,9 +35,12 @@ fn draws_row(e: Engine, mt: &mut [u32; 624], r: u32, budget: u32, n: u64) -> Tot
     let mut used: u64 = 0;
     for _i in 0..n {
         let a = bounded::bounded_in(next, mt, r, budget);
-        let o = words::numbered(a.told);
-        sum = sum.wrapping_add(o.value as u64);
-        used = used.wrapping_add(o.used as u64);
+        let (value, words) = match a.told {
+            Ok(Given { value, used }) => (value, used),
+            Err(_) => (0, 0),
+        };
+        sum = sum.wrapping_add(value as u64);
+        used = used.wrapping_add(words as u64);
         next = a.next;
     }
     Total { next, sum, used }
