@@ -10,7 +10,7 @@ pub row_begins : (r budget : ℕ) (g : Random) → record { sum = 0; used = 0; n
 unfolding draws_row
 row_begins r budget g = refl
 
-pub row_goes_on : {t : Total Random} {a : Answer Random} (r budget n : ℕ) (g : Random) → t ≡ draws_row r budget n g → a ≡ one_draw r budget t.next
-    → plus t a ≡ draws_row r budget (n + 1) g
+pub row_goes_on : {t : Total Random} {a : Answer Random} (r budget n : ℕ) (g : Random)
+    → t ≡ draws_row r budget n g → a ≡ one_draw r budget t.next → plus t a ≡ draws_row r budget (n + 1) g
 unfolding draws_row
 row_goes_on r budget n g e d = rw (add-one, d, e)

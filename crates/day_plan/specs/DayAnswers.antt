@@ -34,7 +34,8 @@ module _ {o : Outcome} (e : Engine) (mt day : List ℕ) (blanks budget : ℕ) (t
       (whole.0, sym (plan_refused (words_of (joined_with e mt)) blanks day budget (λ z. n (sym refusal_told ∙ z))))
 
   -- or the day is laid out, and its shuffle performed.
-  pub planned_all : {a : Answer Engine} {laid mt' day' : List ℕ} {next : Engine} → o.refusal ≡ answered → laid ≡ laid_out blanks (length day)
+  pub planned_all : {a : Answer Engine} {laid mt' day' : List ℕ} {next : Engine}
+      → o.refusal ≡ answered → laid ≡ laid_out blanks (length day)
       → PerformInPromise e mt laid budget next mt' day' → a ≡ answer_in o next → PlanDayInPromise e mt day blanks budget a mt' day'
   planned_all {laid = laid} z f p q =
       let same : length laid ≡ length day = ap length f ∙ laid_length blanks (length day) in

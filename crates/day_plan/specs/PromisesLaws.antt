@@ -24,6 +24,6 @@ one_plan_day_in e mt day blanks budget p q =
     (answer, table, p.1 ∙ sym q.1)
 
 -- "The new generator is the old one after that many words" (document 01, "Draws").
-pub plan_day_next : (g : Random) (day : List ℕ) (blanks budget : ℕ) {a : Answer Random} {day' : List ℕ} → PlanDayPromise g day blanks budget a day'
-    → a.next ≡ later a.used g
+pub plan_day_next : (g : Random) (day : List ℕ) (blanks budget : ℕ) {a : Answer Random} {day' : List ℕ}
+    → PlanDayPromise g day blanks budget a day' → a.next ≡ later a.used g
 plan_day_next g day blanks budget p = next_after_used g (shuffle_by (words_of g) (length day) budget) p.0

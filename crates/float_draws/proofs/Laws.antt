@@ -70,7 +70,8 @@ module _ (g : Random) (p : Float) where
   flip_refused c = rw (c, later_none g)
 
 -- what is told stays, by value as over a lent table
-pub flip_joined : (a : Reply Bool Engine) (t : List ℕ) → flip (record { next = joined_with a.next t; told = a.told }) ≡ joined_flip (flip a) t
+pub flip_joined : (a : Reply Bool Engine) (t : List ℕ)
+    → flip (record { next = joined_with a.next t; told = a.told }) ≡ joined_flip (flip a) t
 flip_joined a t = go a.told
   where
     go : (told : Result (Given Bool) Refusal) → flip_told told (joined_with a.next t) ≡ joined_flip (flip_told told a.next) t

@@ -29,7 +29,8 @@ start_answers a b {t} g o h same =
 
 -- a start that leaves room stays so
 pub start_fits : (a b : Reply ℕ Engine) (n window : ℕ) → b ≡ a
-    → PartFits n window (in_numbers a).refusal (in_numbers a).value → PartFits n window (start_in_numbers b).refusal (start_in_numbers b).start
+    → PartFits n window (in_numbers a).refusal (in_numbers a).value
+    → PartFits n window (start_in_numbers b).refusal (start_in_numbers b).start
 unfolding start_of
 start_fits a b n window same fits = rw same fits
 

@@ -32,7 +32,8 @@ pub one_range : (g : Random) (min max : ℤ) (budget : ℕ) {a b : IntAnswer Ran
     → RangePromise g min max budget a → RangePromise g min max budget b → a ≡ b
 one_range g min max budget p q = p ∙ sym q
 
-pub one_uint : (g : Random) (min max budget : ℕ) {a b : Answer Random} → UintPromise g min max budget a → UintPromise g min max budget b → a ≡ b
+pub one_uint : (g : Random) (min max budget : ℕ) {a b : Answer Random}
+    → UintPromise g min max budget a → UintPromise g min max budget b → a ≡ b
 one_uint g min max budget p q = p ∙ sym q
 
 pub one_uint_in : (e : Engine) (mt : List ℕ) (min max budget : ℕ) {a b : Answer Engine} {mt₁ mt₂ : List ℕ}

@@ -26,5 +26,7 @@ pub returns-in_ok-try_into-in-Pcg64 : goal.returns-in_ok-try_into-in-Pcg64
 returns-in_ok-try_into-in-Pcg64 c =
     let whole = c.in_ok-try_into-in-Pcg64.ensures.1 in
     let is = ap number_of c.in-Pcg64.is in
-    let others = kind_pcg64 (number_of c.args.kind) c.args.seed.now (λ x. omega (arith, is, x)) (λ t. omega (arith, is, t)) (λ p. omega (arith, is, p)) in
+    let others =
+    kind_pcg64 (number_of c.args.kind) c.args.seed.now (λ x. omega (arith, is, x)) (λ t. omega (arith, is, t))
+    (λ p. omega (arith, is, p)) in
     (rw is whole.long, rw (c.from_pcg64.ensures, c.from_seed-in-Pcg64.ensures, whole.same) others)
