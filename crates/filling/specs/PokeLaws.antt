@@ -1,6 +1,6 @@
 -- The laws of writing bytes into a list: what stands before them stays, then stand the bytes, and no length changes.
 use borrow.Rule.Slice.PartMut.{put_mid, post_of, Post-is}
-use Rattle.std.specs.Int.{w32, w64, to_le_bytes}
+use Rattle.std.specs.Int.{w64, to_le_bytes}
 use Rattle.std.specs.Prelude.{◌≡◌, refl, List, [], ◌∷◌, ◌++◌, take, drop, ℕ, zero, suc, ◌+◌, ◌-◌, ◌/◌, ◌%◌, ◌^◌, ◌≤◌, ◌<◌, length}
 use Rattle.std.specs.Prelude.{get_or, set}
 use Rattle.std.proofs.Common.{sym, ◌∙◌, ap, arith, add-zero, add-one, append_assoc, length-set, get_or-set_same, get_or-set_other}
@@ -61,10 +61,6 @@ poke_part n i w l bytes h e =
     rw (rest, e) (written_over n i w l h)
 
 -- the bytes of a word are all its low bytes, and fewer of them are its lowest
-pub four_low : (w : ℕ) → to_le_bytes w32 w ≡ low_bytes 4 w
-unfolding low_bytes
-four_low w = simp div-div-eq-div-mul
-
 pub eight_low : (w : ℕ) → to_le_bytes w64 w ≡ low_bytes 8 w
 unfolding low_bytes
 eight_low w = simp div-div-eq-div-mul
