@@ -22,7 +22,7 @@ pub fn signed_u64(w: u64) -> i64
 pub fn wrapping_add_signed(x: i32, w: u32) -> i32
     ensures { WrappingAddSignedPromise x w result }
 {
-    x.wrapping_add_unsigned(w)
+    signed_u32(x.cast_unsigned().wrapping_add(w))
 }
 
 // How far max is above min, worked out in 64 bits; 0 where it is below.
