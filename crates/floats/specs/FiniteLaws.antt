@@ -1,15 +1,23 @@
--- Finite floats, by the whole numbers: what std's test says, what is not finite, and that a difference of finite floats
--- is no NaN, so that one which is not finite has overflowed.
+-- Finite floats, by the whole numbers: what the tests with the infinities and std's test say, what is not finite, and that a difference
+-- of finite floats is no NaN, so that one which is not finite has overflowed.
 use Rattle.std.specs.Prelude.{◌≡◌, refl, ◌⊎◌, ℕ, zero, suc, ◌+◌, ◌-◌, ◌*◌, ◌^◌, Bool, true, false, not, ◌&&◌, cond, ltb, Float}
 use Rattle.std.proofs.Common.{sym, ap, ◌∙◌, inl, inr, true≢false}
 use Rattle.std.specs.Bool.{beq}
 use Rattle.std.proofs.lemmas.Bool.{false≢true}
 use Rattle.std.specs.Float.{nan, inf, fin, float_is_finite, Format}
-use Rattle.std.specs.Float.Ieee.{prec, low, up, down, odd, units, round, sum, add, sub, neg, is_nan}
+use Rattle.std.specs.Float.Ieee.{prec, low, up, down, odd, units, round, sum, add, sub, neg, lt, is_nan}
 use Rattle.std.specs.Float.Ieee.Fits.{round_is}
 use Rattle.std.specs.Float.Ieee.Scale.{finite, overflow}
 
--- ---- finite: std's test
+-- ---- finite: below the one infinity and above the other
+pub finite_tests : (x : Float) → finite x ≡ (lt x (inf false) && lt (inf true) x)
+unfolding lt
+finite_tests nan = refl
+finite_tests (inf true) = refl
+finite_tests (inf false) = refl
+finite_tests (fin s m e) = refl
+
+-- std's test
 pub finite_is : (x : Float) → float_is_finite x ≡ finite x
 unfolding float_is_finite
 finite_is nan = refl

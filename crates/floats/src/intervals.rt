@@ -1,5 +1,6 @@
 // A number of an interval: low + (high - low) * double, each operation rounded once.
 ghost use Rattle.std.specs.Prelude.{◌≡◌};
+ghost use Rattle.std.specs.Float.Ieee.Scale.{finite};
 ghost use Rattle.floats.specs.Intervals.{number_in};
 ghost use Rattle.words.specs.Numbers.{refusal_in};
 ghost use Rattle.floats.specs.Promises.{EndsAreFinitePromise, IsOutOfOrderPromise, IntervalRefusalPromise, UniformOfPromise};
@@ -22,11 +23,19 @@ pub enum Uniform {
     Refused(u32),
 }
 
-// Whether neither end is a NaN or an infinity.
+// Whether x is neither a NaN nor an infinity: by comparisons alone, which raise no flag of the processor's. Std's test takes x from itself.
+fn is_finite(x: f64) -> bool
+    ensures { result ≡ finite x }
+{
+    let infinity = 1.0 / 0.0;
+    if x < infinity { -infinity < x } else { false }
+}
+
+// Whether both ends are.
 pub fn ends_are_finite(i: Interval) -> bool
     ensures { EndsAreFinitePromise i result }
 {
-    i.low.is_finite() && i.high.is_finite()
+    is_finite(i.low) && is_finite(i.high)
 }
 
 // -0.0 and 0.0 are level, so an interval between them is out of order.
@@ -46,7 +55,7 @@ pub fn interval_refusal(i: Interval) -> Option<Refusal>
     if is_out_of_order(i) {
         return Some(Refusal::Order);
     }
-    if (i.high - i.low).is_finite() {
+    if is_finite(i.high - i.low) {
         None
     } else {
         Some(Refusal::NotFinite)

@@ -1,6 +1,5 @@
 -- `interval_refusal` meets its contract: each way out is the refusal of the tests that led there.
 use Rattle.std.proofs.Common.{sym, ◌∙◌}
-use Rattle.floats.specs.FiniteLaws.{finite_is}
 use Rattle.floats.proofs.IntervalLaws.{ends_refused, order_refused, width_refused, accepted}
 use Rattle.floats.proofs.intervals.interval_refusal.Goals as goal
 
@@ -16,10 +15,10 @@ pub returns-then-is_finite : goal.returns-then-is_finite
 returns-then-is_finite c =
     let finite_ends = sym c.ends_are_finite.ensures ∙ c.if-not-ends_are_finite.false in
     let in_order = sym c.is_out_of_order.ensures ∙ c.if-is_out_of_order.false in
-    sym (accepted _ finite_ends in_order (sym (finite_is _) ∙ sym c.is_finite.ensures.value ∙ c.if-is_finite.true))
+    sym (accepted _ finite_ends in_order (sym c.is_finite.ensures ∙ c.if-is_finite.true))
 
 pub returns-else-is_finite : goal.returns-else-is_finite
 returns-else-is_finite c =
     let finite_ends = sym c.ends_are_finite.ensures ∙ c.if-not-ends_are_finite.false in
     let in_order = sym c.is_out_of_order.ensures ∙ c.if-is_out_of_order.false in
-    sym (width_refused _ finite_ends in_order (sym (finite_is _) ∙ sym c.is_finite.ensures.value ∙ c.if-is_finite.false))
+    sym (width_refused _ finite_ends in_order (sym c.is_finite.ensures ∙ c.if-is_finite.false))
