@@ -5,7 +5,7 @@ use Rattle.std.proofs.Math.Path.{ap}
 use borrow.Author.Tests.{eq-eqb, ne_eqb}
 use Rattle.std.specs.Float.{fin, binary64}
 use Rattle.std.specs.Float.Ieee.{fits}
-use Rattle.floats.specs.Chances.{is_chance, coin_of}
+use Rattle.floats.specs.Chances.{Coin, is_chance, coin_of}
 use Rattle.floats.proofs.IntervalLaws.{uniform_refused}
 use Rattle.floats.proofs.NoMinusZero.{answer_never_minus_zero}
 use Rattle.floats.specs.Intervals.{interval_refusal, uniform_of}
@@ -63,6 +63,12 @@ module _ (g : Random) (p : Float) where
       → flip_of (coin_of p r.word) (steps64 g.backend) (joined_with r.next t) ≡ flip_from g p
   unfolding flip_from u64_of
   flip_taken c r t h = rw (c, ap (λ (d : Drawn ℕ Random). d.word) h, ap (λ (d : Drawn ℕ Random). d.next) h)
+
+  -- the same of a coin that the code tossed
+  pub flip_tossed : {v : Bool} → is_chance p ≡ true → (r : Drawn ℕ Engine) (t : List ℕ) → joined_word r t ≡ u64_of g
+      → record { refusal = 0; value = v } ≡ coin_of p r.word
+      → flip_of (record { refusal = 0; value = v }) (steps64 g.backend) (joined_with r.next t) ≡ flip_from g p
+  flip_tossed c r t h coin = ap (λ (k : Coin). flip_of k (steps64 g.backend) (joined_with r.next t)) coin ∙ flip_taken c r t h
 
   -- and where it is none, nothing drawn
   pub flip_refused : is_chance p ≡ false → record { refusal = refusal.chance; value = false; used = 0; next = g } ≡ flip_from g p

@@ -21,7 +21,10 @@ pub fn bool_in(e: Engine, mt: &mut [u32; 624], p: f64) -> Reply<bool, Engine>
     if floats::is_chance(p) {
         let used = steps(e.backend);
         let d = random::next_u64(e, mt);
-        return Reply::gives(floats::double_of(d.word) < p, used, d.next);
+        return match floats::chance(p, d.word) {
+            Ok(value) => Reply::gives(value, used, d.next),
+            Err(refusal) => Reply::refuses(refusal, d.next),
+        };
     }
     Reply::refuses(Refusal::Chance, e)
 }

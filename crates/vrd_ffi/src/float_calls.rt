@@ -87,7 +87,7 @@ pub extern "C" fn vrd_bool_in(state: &mut [u64; 6], table: &mut [u32; 624], chan
         return Coin {
             used,
             refusal: refusal::ANSWERED,
-            value: floats::double_of(word) < chance,
+            value: floats::chance(chance, word).unwrap_or(false),
         };
     }
     Coin {
