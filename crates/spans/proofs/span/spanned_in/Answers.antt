@@ -1,11 +1,8 @@
 -- `spanned_in` meets its contract.
 use Rattle.std.proofs.Common.{sym, ◌∙◌, ap}
-use Rattle.bounded.specs.Answers.{answer_from, in_numbers}
-use Rattle.spans.specs.SpanLaws.{span_answers, span_whole, span_part}
+use Rattle.bounded.specs.Answers.{answer_from}
+use Rattle.spans.specs.SpanLaws.{span_whole, span_part}
 use Rattle.spans.proofs.span.spanned_in.Goals as goal
-
-pub returns-then-last-eq0-clause-answer : goal.returns-then-last-eq0-clause-answer
-returns-then-last-eq0-clause-answer c = span_answers _ _ _ _ (ap in_numbers c.gives.ensures) c.if-last-eq0.true
 
 pub returns-then-last-eq4294967295-clause-answer : goal.returns-then-last-eq4294967295-clause-answer
 returns-then-last-eq4294967295-clause-answer c =
