@@ -36,6 +36,14 @@ poke_at (suc n) i w l (suc t) h f =
     let e : w / 256 / 256 ^ t ≡ w / 256 ^ suc t = div-div-eq-div-mul w 256 (256 ^ t) ∙ ap (λ (x : ℕ). w / x) (sym (pow-succ' 256 t)) in
     rw z (poke_at n (i + 1) (w / 256) (set l i (w % 256)) t (omega arith) (rw length-set (omega arith)) ∙ rw e)
 
+-- four bytes and then four more are eight
+pub poke_eight : (i w : ℕ) (l : List ℕ) → poke 4 (i + 4) (w / 2 ^ 32) (poke 4 i w l) ≡ poke 8 i w l
+unfolding poke
+poke_eight i w l =
+    let e : w / 256 / 256 / 256 / 256 ≡ w / 2 ^ 32 = omega arith in
+    let p : i + 1 + 1 + 1 + 1 ≡ i + 4 = omega arith in
+    rw (e, p)
+
 -- a list with the low n bytes of w put over a part of it is the list with them written in
 written_over : (n i w : ℕ) (l : List ℕ) → i + n ≤ length l → take i l ++ (low_bytes n w ++ drop (i + n) l) ≡ poke n i w l
 unfolding poke low_bytes

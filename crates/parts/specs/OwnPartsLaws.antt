@@ -31,14 +31,20 @@ backend_is (Pcg64 p) (Pcg32 q) k e = absurd (omega arith)
 backend_is (Pcg64 p) (Pcg64 q) k e =
     λ i. Pcg64 (record { state = record { high = (e i).w0; low = (e i).w1 }; inc = record { high = (e i).w2; low = (e i).w3 } })
 
--- a kind other than the twister has no table of its own
+-- a kind other than the twister has no table of its own, and the twister's is the whole
 pub table_by : (b : Backend) (t u : List ℕ) → (kind_of b ≡ 1 → ⊥) → table_part b t ≡ table_part b u
 table_by (Xoshiro256PlusPlus x) t u h = refl
 table_by MersenneTwister t u h = absurd (h refl)
 table_by (Pcg32 p) t u h = refl
 table_by (Pcg64 p) t u h = refl
 
--- the same by whether the kind draws from the table; one that does has the whole
+pub twister_by : (b : Backend) (t : List ℕ) → kind_of b ≡ 1 → table_part b t ≡ t
+twister_by (Xoshiro256PlusPlus x) t h = absurd (omega arith)
+twister_by MersenneTwister t h = refl
+twister_by (Pcg32 p) t h = absurd (omega arith)
+twister_by (Pcg64 p) t h = absurd (omega arith)
+
+-- the same by whether the kind draws from the table
 pub table_off : (b : Backend) (t u : List ℕ) → on_table b ≡ false → table_part b t ≡ table_part b u
 table_off (Xoshiro256PlusPlus x) t u h = refl
 table_off MersenneTwister t u h = absurd (true≢false h)

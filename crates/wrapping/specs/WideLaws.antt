@@ -1,7 +1,7 @@
 -- The laws of numbers held as two words: their words are read off, and the words of a sum and of a product modulo 2 ^ 128.
-use Rattle.std.specs.Prelude.{◌≡◌, ℕ, ◌+◌, ◌*◌, ◌/◌, ◌%◌, ◌^◌, ◌<◌}
+use Rattle.std.specs.Prelude.{◌≡◌, ℕ, ◌+◌, ◌*◌, ◌/◌, ◌%◌, ◌^◌, ◌<◌, ◌≤◌}
 use Rattle.std.proofs.Common.{sym, ap, ◌∙◌, div-add-mod', mod-lt, add_assoc, arith, pow_pos, shr_lt, shr-shr}
-use Rattle.std.proofs.Math.Nat.{mul-add-mod_self_right}
+use Rattle.std.proofs.Math.Nat.{mul-add-mod_self_right, add_left_comm, mod-add-mod}
 use Rattle.std.proofs.Math.Pow.{high, low, field, mod-mod-pow}
 use Rattle.wrapping.specs.Wide.{value, wide, SizedWide, wide_sum, wide_product}
 use Rattle.wrapping.specs.declared.wide.Wide.{Wide}
@@ -45,6 +45,13 @@ pub sum_words : (r a b : Wide) → r.high ≡ (a.high + b.high + (a.low + b.low)
 sum_words r a b p q =
     words_are r (a.high + b.high) (a.low + b.low) p q ∙ ap (λ (n : ℕ). wide (n % 2 ^ 128)) (omega arith)
 
+-- the carry out of a sum of two words is told by comparing the wrapped sum with either
+pub carried : (s x y : ℕ) → x < 2 ^ 64 → y < 2 ^ 64 → s ≡ (x + y) % 2 ^ 64 → s < y → (x + y) / 2 ^ 64 ≡ 1
+carried s x y hx hy e l = omega arith
+
+pub uncarried : (s x y : ℕ) → x < 2 ^ 64 → y < 2 ^ 64 → s ≡ (x + y) % 2 ^ 64 → y ≤ s → (x + y) / 2 ^ 64 ≡ 0
+uncarried s x y hx hy e l = omega arith
+
 multiplied_out : (P a₁ a₀ b₁ b₀ : ℕ) → (a₁ * b₁ * P + (a₁ * b₀ + a₀ * b₁)) * P + a₀ * b₀ ≡ (a₁ * P + a₀) * (b₁ * P + b₀)
 multiplied_out P a₁ a₀ b₁ b₀ = omega arith
 
@@ -55,3 +62,8 @@ product_words r a b p q =
     words_are r (a.high * b.high * 2 ^ 64 + (a.high * b.low + a.low * b.high)) (a.low * b.low)
     (p ∙ sym (rw add_assoc (mul-add-mod_self_right (a.high * b.high) (2 ^ 64) _))) q
     ∙ ap (λ (n : ℕ). wide (n % 2 ^ 128)) (multiplied_out (2 ^ 64) a.high a.low b.high b.low)
+
+-- products that were wrapped before they are summed leave the sum modulo 2 ^ 64 as it is
+pub sum_of_wrapped : (x y z : ℕ) → (x % 2 ^ 64 + y % 2 ^ 64 + z) % 2 ^ 64 ≡ (x + y + z) % 2 ^ 64
+sum_of_wrapped x y z =
+    rw (add_assoc (x % 2 ^ 64), mod-add-mod, add_left_comm, mod-add-mod) (ap (λ (n : ℕ). n % 2 ^ 64) (omega arith))
