@@ -1,7 +1,10 @@
 -- Each promise leaves one answer: two that both meet it are equal.
-use Rattle.std.specs.Prelude.{Bool, List, ◌≡◌, ℕ, ℤ}
-use Rattle.std.proofs.Common.{sym, ◌∙◌}
+use Rattle.std.specs.Prelude.{Bool, List, ◌≡◌, refl, ℕ, ◌<◌, ℤ, Result, Ok, Err}
+use Rattle.std.proofs.Common.{sym, ◌∙◌, ap, arith}
 use Rattle.random.specs.declared.kind.Kind.{Kind}
+use Rattle.random.specs.declared.kind.Kind.TheVariants as kind
+use Rattle.random.specs.declared.kind.UnknownKind.{UnknownKind}
+use Rattle.random.specs.Kinds.{number_of, Named}
 use Rattle.random.specs.Promises.{BackendKindPromise, KindNumberPromise}
 use Rattle.random.specs.LentLaws.{word_apart}
 use Rattle.random.specs.Promises.{EngineOfPromise, EngineWithPromise, I64Promise, NextOwnPromise, NextReadyPromise}
@@ -64,6 +67,38 @@ one_on_table backend p q = p ∙ sym q
 
 pub one_kind_number : (k : Kind) {a b : ℕ} → KindNumberPromise k a → KindNumberPromise k b → a ≡ b
 one_kind_number k p q = p ∙ sym q
+
+-- four kinds, four numbers
+pub kind_of_one_number : (k l : Kind) → number_of k ≡ number_of l → k ≡ l
+kind_of_one_number kind.Xoshiro256PlusPlus kind.Xoshiro256PlusPlus h = refl
+kind_of_one_number kind.Xoshiro256PlusPlus kind.MersenneTwister h = absurd (omega (arith, h))
+kind_of_one_number kind.Xoshiro256PlusPlus kind.Pcg32 h = absurd (omega (arith, h))
+kind_of_one_number kind.Xoshiro256PlusPlus kind.Pcg64 h = absurd (omega (arith, h))
+kind_of_one_number kind.MersenneTwister kind.Xoshiro256PlusPlus h = absurd (omega (arith, h))
+kind_of_one_number kind.MersenneTwister kind.MersenneTwister h = refl
+kind_of_one_number kind.MersenneTwister kind.Pcg32 h = absurd (omega (arith, h))
+kind_of_one_number kind.MersenneTwister kind.Pcg64 h = absurd (omega (arith, h))
+kind_of_one_number kind.Pcg32 kind.Xoshiro256PlusPlus h = absurd (omega (arith, h))
+kind_of_one_number kind.Pcg32 kind.MersenneTwister h = absurd (omega (arith, h))
+kind_of_one_number kind.Pcg32 kind.Pcg32 h = refl
+kind_of_one_number kind.Pcg32 kind.Pcg64 h = absurd (omega (arith, h))
+kind_of_one_number kind.Pcg64 kind.Xoshiro256PlusPlus h = absurd (omega (arith, h))
+kind_of_one_number kind.Pcg64 kind.MersenneTwister h = absurd (omega (arith, h))
+kind_of_one_number kind.Pcg64 kind.Pcg32 h = absurd (omega (arith, h))
+kind_of_one_number kind.Pcg64 kind.Pcg64 h = refl
+
+kind_below_four : (k : Kind) → number_of k < 4
+kind_below_four kind.Xoshiro256PlusPlus = omega arith
+kind_below_four kind.MersenneTwister = omega arith
+kind_below_four kind.Pcg32 = omega arith
+kind_below_four kind.Pcg64 = omega arith
+
+-- what a number names: a kind, or none
+pub one_named : (n : ℕ) (a b : Result Kind UnknownKind) → Named n a → Named n b → a ≡ b
+one_named n (Ok k) (Ok l) p q = ap Ok (kind_of_one_number k l (p ∙ sym q))
+one_named n (Ok k) (Err e) p q = absurd (omega (arith, kind_below_four k, p, q.1))
+one_named n (Err e) (Ok k) p q = absurd (omega (arith, kind_below_four k, q, p.1))
+one_named n (Err e) (Err f) p q = ap (λ (x : ℕ). Err (record { 0 = x })) (p.0 ∙ sym q.0)
 
 pub one_backend_kind : (b : Backend) {k l : Kind} → BackendKindPromise b k → BackendKindPromise b l → k ≡ l
 one_backend_kind b p q = p ∙ sym q
