@@ -25,6 +25,11 @@ pub(crate) enum Call {
 }
 
 impl Call {
+    // Whether it is made on a list.
+    pub(crate) fn takes_list(self) -> bool {
+        matches!(self, Call::Choose | Call::Shuffle | Call::RandSlice)
+    }
+
     // Whether words are looked through for a good one, within a budget.
     pub(crate) fn has_budget(self) -> bool {
         !matches!(

@@ -1,4 +1,4 @@
-// The two lists of a try: that of the call, and that which is to be left. A call that takes no list leaves its own as it came.
+// The two lists of a try: that of the call, and that which is to be left. They are empty where a call takes no list.
 ghost use Rattle.std.specs.Prelude.{◌≤◌};
 
 use crate::calls;
@@ -27,11 +27,15 @@ pub(crate) struct Lists {
     left: [u32; ROOM],
 }
 
-// The list of a row: its entries, and three more after them, so that a store past its end shows.
-fn with_more(row: Row) -> usize
+// The list of a call on a row: the row's entries, and three more after them, so that a store past its end shows.
+fn with_more(call: Call, row: Row) -> usize
     ensures { result ≤ 65540 }
 {
-    row.length.min(LONGEST) + 3
+    if call.takes_list() {
+        row.length.min(LONGEST) + 3
+    } else {
+        0
+    }
 }
 
 // The call on the row's own entries of a list, which is filled first.
@@ -61,7 +65,7 @@ impl Lists {
         g: Random,
         patience: u32,
     ) -> Told<Random> {
-        let n = with_more(row);
+        let n = with_more(call, row);
         ordered(call, row, g, &mut self.left[..n], patience)
     }
 
@@ -74,7 +78,7 @@ impl Lists {
         budget: u32,
         way: Way,
     ) -> bool {
-        let n = with_more(row);
+        let n = with_more(call, row);
         let told = asked(call, row, g, &mut self.asked[..n], budget, way);
         let right = ordered(call, row, g, &mut self.left[..n], budget);
         same_told(told, right) && self.asked[..n] == self.left[..n]

@@ -2,6 +2,8 @@
 // stands in the table on standard input (the file `stdin` of this crate), a line for each row.
 #![tactic(auto)]
 
+ghost use Rattle.std.specs.Prelude.{◌≤◌, length, IfOk};
+
 mod calls;
 mod generators;
 mod listed;
@@ -17,11 +19,26 @@ mod windows;
 use std::io;
 use std::io::Read;
 
-// The bytes of the table that are read, at most.
-const ROOM: u64 = 65536;
+// The bytes of the table that are read, at most. They stand on the stack: this program asks for no memory.
+const ROOM: usize = 65536;
+
+// Reads until the buffer is full or the input ends, and answers how many bytes stand at the buffer's start.
+fn read_full(input: &mut impl Read, buffer: &mut [u8]) -> io::Result<usize>
+    ensures { IfOk result (λ n. n ≤ length buffer.new) }
+{
+    let mut done: usize = 0;
+    while done < buffer.len() {
+        let n = input.read(&mut buffer[done..])?;
+        if n == 0 {
+            break;
+        }
+        done += n;
+    }
+    Ok(done)
+}
 
 fn main(rt: HostRuntime) -> io::Result<()> {
-    let mut text = Vec::new(rt.alloc());
-    rt.reader().take(ROOM).read_to_end(&mut text)?;
-    trying::try_table(&rt, &text)
+    let mut text = [0; ROOM];
+    let n = read_full(&mut rt.reader(), &mut text)?;
+    trying::try_table(&rt, &text[..n])
 }

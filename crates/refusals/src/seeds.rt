@@ -30,9 +30,14 @@ fn seed<const N: usize>(number: u64) -> [u8; N] {
     bytes
 }
 
-// The kind of a row's number; what is above 3 stands for the last.
+// The kind of a row's number, in the order's own numbers; what is above 3 stands for the last.
 fn kind_of(number: u64) -> Kind {
-    u32::try_from(number).map_or(Kind::Pcg64, |n| Kind::try_from(n).unwrap_or(Kind::Pcg64))
+    match number {
+        0 => Kind::Xoshiro256PlusPlus,
+        1 => Kind::MersenneTwister,
+        2 => Kind::Pcg32,
+        _ => Kind::Pcg64,
+    }
 }
 
 // The kind's own call over an array of the exact length; the twister stands beside its backend.

@@ -1,7 +1,7 @@
 // Rows compared: a row's call is made, and the eight words of its answer are held to those recorded.
 use crate::calls::Call;
 use crate::outcome::Outcome;
-use crate::sample::{ANSWER_WORDS, Row};
+use crate::sample::{ANSWER_WORDS, BYTES, Row};
 use crate::{perform, start};
 use std::ops::AddAssign;
 use std::{fmt, io};
@@ -95,11 +95,16 @@ fn first_difference(at: usize, row: &Row) -> Option<Difference> {
 }
 
 // The rows of a file, told by its name and whether it is damaged.
-pub(crate) fn rows(rt: &impl Print, name: &str, state: &str, rows: &[Row]) -> io::Result<Compared> {
+pub(crate) fn rows(
+    rt: &impl Print,
+    name: &str,
+    state: &str,
+    rows: &[[u8; BYTES]],
+) -> io::Result<Compared> {
     let mut last = None;
     let mut differing = 0usize;
-    for (at, row) in rows.iter().enumerate() {
-        let Some(difference) = first_difference(at, row) else {
+    for (at, bytes) in rows.iter().enumerate() {
+        let Some(difference) = first_difference(at, &Row::of(bytes)) else {
             continue;
         };
         if differing < FEW {

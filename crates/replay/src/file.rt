@@ -1,17 +1,19 @@
 // A file: read whole, replayed, and replayed again with one bit of one answer changed.
-use crate::compare;
+ghost use Rattle.std.specs.Prelude.{◌≤◌, length, IfOk};
+
 use crate::compare::{Compared, Place, Tally};
-use crate::sample::Row;
+use crate::sample::{BYTES, Row};
+use crate::{compare, sample};
 use std::io::Read;
 use std::rt::Files;
 use std::{fs, io};
 
-// The bytes of a file that are read, at most.
-const ROOM: u64 = 65536;
+// The bytes of a file that are read, at most. They stand on the stack: this program asks for no memory.
+const ROOM: usize = 65536;
 
 // Where the lowest bit is changed: a row, and a word of its answer. The number of rows and the first row's call pick them.
-fn damage_of(rows: &[Row]) -> Option<Place> {
-    let first = rows.first()?;
+fn damage_of(rows: &[[u8; BYTES]]) -> Option<Place> {
+    let first = Row::of(rows.first()?);
     let pick = rows.len().wrapping_add(first.call as usize) % 0x1_0000;
     Some(Place {
         row: pick * 7 % rows.len(),
@@ -19,9 +21,9 @@ fn damage_of(rows: &[Row]) -> Option<Place> {
     })
 }
 
-fn change_bit(rows: &mut [Row], damage: Place) {
+fn change_bit(rows: &mut [[u8; BYTES]], damage: Place) {
     if let Some(row) = rows.get_mut(damage.row) {
-        row.answer[damage.word % 8] ^= 1;
+        sample::change_bit(row, damage.word);
     }
 }
 
@@ -30,7 +32,7 @@ fn is_told(c: Compared, count: usize, damage: Option<Place>) -> bool {
     count.checked_sub(1) == Some(c.agree) && c.last == damage
 }
 
-fn replay_rows(rt: &impl Print, name: &str, rows: &mut [Row]) -> io::Result<Tally> {
+fn replay_rows(rt: &impl Print, name: &str, rows: &mut [[u8; BYTES]]) -> io::Result<Tally> {
     let whole = compare::rows(rt, name, "", rows)?;
     let damage = damage_of(rows);
     if let Some(damage) = damage {
@@ -45,22 +47,40 @@ fn replay_rows(rt: &impl Print, name: &str, rows: &mut [Row]) -> io::Result<Tall
     })
 }
 
-fn rows_of<R: Files + AllocGlobal>(rt: &R, name: &str) -> io::Result<Vec<Row>> {
-    let mut data = Vec::new(rt.alloc());
-    fs::open(rt, name)?.take(ROOM).read_to_end(&mut data)?;
-    Row::all(rt.alloc(), &data)
+// A file that is not there, can't be read, or is not of the length that its head says, counts as a row that does not agree.
+fn missing(rt: &impl Print, name: &str) -> io::Result<Tally> {
+    println!(rt; "{name}: no such sample")?;
+    Ok(Tally {
+        rows: 1,
+        ..Tally::default()
+    })
 }
 
-// A file that is not there, can't be read, or is not of the length that its head says, counts as a row that does not agree.
-pub(crate) fn replay<R: Print + Files + AllocGlobal>(rt: &R, name: &str) -> io::Result<Tally> {
-    match rows_of(rt, name) {
-        Ok(mut rows) => replay_rows(rt, name, &mut rows),
-        Err(_) => {
-            println!(rt; "{name}: no such sample")?;
-            Ok(Tally {
-                rows: 1,
-                ..Tally::default()
-            })
+// Reads until the buffer is full or the file ends, and answers how many bytes stand at the buffer's start.
+fn read_full(file: &mut impl Read, buffer: &mut [u8]) -> io::Result<usize>
+    ensures { IfOk result (λ n. n ≤ length buffer.new) }
+{
+    let mut done: usize = 0;
+    while done < buffer.len() {
+        let n = file.read(&mut buffer[done..])?;
+        if n == 0 {
+            break;
         }
+        done += n;
+    }
+    Ok(done)
+}
+
+pub(crate) fn replay(rt: &(impl Print + Files), name: &str) -> io::Result<Tally> {
+    let Ok(mut file) = fs::open(rt, name) else {
+        return missing(rt, name);
+    };
+    let mut data = [0; ROOM];
+    let Ok(length) = read_full(&mut file, &mut data) else {
+        return missing(rt, name);
+    };
+    match sample::rows_in(&mut data[..length]) {
+        Some(rows) => replay_rows(rt, name, rows),
+        None => missing(rt, name),
     }
 }

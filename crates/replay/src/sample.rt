@@ -2,13 +2,13 @@
 // number of rows, then the rows: call, kind, maker, words skipped, the maker's 8 words, 4 arguments (the last one the budget where
 // there is one), and the answer: refusal, value (low, high), words used, the next two words, and the digest of the generator after the
 // call (low, high).
-use std::alloc::Global;
-use std::io;
-use std::io::ErrorKind;
-
 const WORDS: usize = 24;
 
-const BYTES: usize = 4 * WORDS;
+// The bytes of a row.
+pub(crate) const BYTES: usize = 4 * WORDS;
+
+// Where the answer begins in them.
+const ANSWER: usize = 64;
 
 pub(crate) const ANSWER_WORDS: usize = 8;
 
@@ -45,7 +45,7 @@ fn numbers_of(bytes: &[u8]) -> [u64; 4] {
 }
 
 impl Row {
-    fn of(bytes: &[u8; BYTES]) -> Row {
+    pub(crate) fn of(bytes: &[u8; BYTES]) -> Row {
         let [call, kind, maker, skipped] = words_of::<4>(&bytes[..16]);
         Row {
             call,
@@ -54,21 +54,25 @@ impl Row {
             skipped,
             numbers: numbers_of(&bytes[16..48]),
             arguments: words_of(&bytes[48..64]),
-            answer: words_of(&bytes[64..]),
+            answer: words_of(&bytes[ANSWER..]),
         }
     }
+}
 
-    // All rows of a file, if it is of the width and the length that its head says.
-    pub(crate) fn all(alloc: Global, data: &[u8]) -> io::Result<Vec<Row>> {
-        let wrong = || io::Error::from(ErrorKind::InvalidData);
-        let (head, body) = data.split_first_chunk::<8>().ok_or_else(wrong)?;
-        let (rows, left) = body.as_chunks::<BYTES>();
-        let (width, count) = halves(u64::from_le_bytes(*head));
-        if width as usize != WORDS || count as usize != rows.len() || !left.is_empty() {
-            return Err(wrong());
-        }
-        Ok(rows.iter().map(Row::of).collect(alloc)?)
+// The lowest bit of a word of a row's answer, changed.
+pub(crate) fn change_bit(row: &mut [u8; BYTES], word: usize) {
+    row[ANSWER + 4 * (word % ANSWER_WORDS)] ^= 1;
+}
+
+// The rows of a file, in the bytes that were read of it, if it is of the width and the length that its head says.
+pub(crate) fn rows_in(data: &mut [u8]) -> Option<&mut [[u8; BYTES]]> {
+    let (head, body) = data.split_first_chunk_mut::<8>()?;
+    let (width, count) = halves(u64::from_le_bytes(*head));
+    let (rows, left) = body.as_chunks_mut::<BYTES>();
+    if width as usize != WORDS || count as usize != rows.len() || !left.is_empty() {
+        return None;
     }
+    Some(rows)
 }
 
 // Two words as a number, the low one first.
