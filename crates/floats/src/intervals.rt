@@ -23,7 +23,8 @@ pub enum Uniform {
     Refused(u32),
 }
 
-// Whether x is neither a NaN nor an infinity: by comparisons alone, which raise no flag of the processor's. Std's test takes x from itself.
+// Whether x is neither a NaN nor an infinity. Comparing an infinity raises no flag of the processor's; std's test takes x from itself, which
+// does.
 fn is_finite(x: f64) -> bool
     ensures { result ≡ finite x }
 {
