@@ -89,8 +89,7 @@ impl Case {
 }
 
 // A row of a call that draws from a generator or changes it.
-fn try_call(rt: &impl Print, call: Call, row: Row) -> io::Result<Tally> {
-    let mut lists = Lists::new();
+fn try_call(rt: &impl Print, call: Call, row: Row, lists: &mut Lists) -> io::Result<Tally> {
     let mut tally = Tally::default();
     for (i, state) in STATES.iter().enumerate() {
         for (j, kind) in KINDS.iter().enumerate() {
@@ -100,7 +99,7 @@ fn try_call(rt: &impl Print, call: Call, row: Row) -> io::Result<Tally> {
                 g: generators::generator(*kind, *state),
                 state: *state,
             };
-            tally += case.try_all(rt, TRIES * (KINDS.len() * i + j), &mut lists)?;
+            tally += case.try_all(rt, TRIES * (KINDS.len() * i + j), lists)?;
         }
     }
     Ok(tally)
@@ -114,10 +113,15 @@ fn try_window(rt: &impl Print, row: Row) -> io::Result<Tally> {
 }
 
 // A row of any call. One that can't be tried counts as one that is not as ordered.
-fn try_row(rt: &impl Print, tried: Option<Tried>, row: Row) -> io::Result<Tally> {
+fn try_row(
+    rt: &impl Print,
+    tried: Option<Tried>,
+    row: Row,
+    lists: &mut Lists,
+) -> io::Result<Tally> {
     match tried {
         Some(tried) if row.length <= LONGEST => match tried {
-            Tried::OnGenerators(call) => try_call(rt, call, row),
+            Tried::OnGenerators(call) => try_call(rt, call, row, lists),
             Tried::Make => seeds::try_row(rt, row),
             Tried::WindowOf => try_window(rt, row),
         },
@@ -127,6 +131,7 @@ fn try_row(rt: &impl Print, tried: Option<Tried>, row: Row) -> io::Result<Tally>
 
 // Every row of the table, and a line of the report for each heading. A row begins with a space, a heading with a letter or a digit.
 pub(crate) fn try_table(rt: &impl Print, text: &[u8]) -> io::Result<()> {
+    let mut lists = Lists::new();
     let mut all = Tally::default();
     let mut here = Tally::default();
     // the table from the heading last read on, and from this line on
@@ -137,7 +142,7 @@ pub(crate) fn try_table(rt: &impl Print, text: &[u8]) -> io::Result<()> {
             [] | [b'#', ..] => {}
             [b' ', ..] => {
                 let tried = heading.get(18..26).and_then(calls::named);
-                here += try_row(rt, tried, table::row_of(line, number))?;
+                here += try_row(rt, tried, table::row_of(line, number), &mut lists)?;
             }
             _ => {
                 report::write_heading(rt, heading, here)?;
