@@ -23,8 +23,8 @@ pub enum Uniform {
     Refused(u32),
 }
 
-// Whether x is neither a NaN nor an infinity. Comparing an infinity raises no flag of the processor's; std's test takes x from itself, which
-// does.
+// Whether x is neither a NaN nor an infinity. Comparing an infinity raises no flag of the processor's; std's test takes x from itself,
+// which does.
 fn is_finite(x: f64) -> bool
     ensures { result ≡ finite x }
 {
